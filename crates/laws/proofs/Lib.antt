@@ -1,0 +1,5 @@
+pub mod Tests
+pub mod Places
+pub mod Rules
+pub mod Writing
+pub mod Digits

@@ -1,0 +1,50 @@
+-- Laws of a check that is a list of rules. Assumes nothing.
+use mathlib.Core.Path.{_≡_, refl, sym, _∙_}
+use mathlib.Core.Bool.{Bool, true, false, cond}
+use mathlib.Core.List.{List, [], _∷_, _++_}
+use Rattle.laws.specs.Rules.{Rule, verdict, AllHold}
+
+module _ {R A : Type 0} (refused : R → A) where
+  -- Where every rule holds the check passes.
+  pub verdict-passes : (passed : A) (rs : List (Rule R)) → AllHold rs → verdict refused passed rs ≡ passed
+  verdict-passes passed [] h = refl
+  verdict-passes passed (r ∷ rs) h = rw (h .0) (verdict-passes passed rs (h .1))
+
+  -- Where the check passes every rule holds.
+  pub passes-all : (passed : A) (rs : List (Rule R)) → ((r : R) → refused r ≡ passed → ⊥) → verdict refused passed rs ≡ passed → AllHold rs
+  passes-all passed [] n e = tt
+  passes-all passed (r ∷ rs) n e = go (r .holds) refl e (passes-all passed rs n)
+    where
+      go : (b : Bool) → r .holds ≡ b → cond b (verdict refused passed rs) (refused (r .refusal)) ≡ passed
+          → (verdict refused passed rs ≡ passed → AllHold rs) → (r .holds ≡ true) × AllHold rs
+      go true h f k = (h, k f)
+      go false h f k = absurd (n (r .refusal) f)
+
+  -- The rules of a second list are asked where those of the first all hold.
+  pub verdict-append : (passed : A) (qs rs : List (Rule R)) → verdict refused passed (qs ++ rs) ≡ verdict refused (verdict refused passed rs) qs
+  verdict-append passed [] rs = refl
+  verdict-append passed (q ∷ qs) rs = rw (verdict-append passed qs rs)
+
+  -- A check answers the same refusal whatever it would answer where it passes.
+  pub refused-any : (passed : A) (rs : List (Rule R)) (r : R) → ((s : R) → refused s ≡ refused r → s ≡ r) → (passed ≡ refused r → ⊥)
+      → verdict refused passed rs ≡ refused r → {B : Type 0} (told : R → B) (fine : B) → verdict told fine rs ≡ told r
+  refused-any passed [] r i n e told fine = absurd (n e)
+  refused-any passed (q ∷ rs) r i n e told fine = go (q .holds) e (λ f. refused-any passed rs r i n f told fine)
+    where
+      go : (b : Bool) → cond b (verdict refused passed rs) (refused (q .refusal)) ≡ refused r
+          → (verdict refused passed rs ≡ refused r → verdict told fine rs ≡ told r) → cond b (verdict told fine rs) (told (q .refusal)) ≡ told r
+      go true f k = k f
+      go false f k = rw (i (q .refusal) f)
+
+-- All rules of two lists hold where those of each do, and back.
+pub hold-append : {R : Type 0} (qs rs : List (Rule R)) → AllHold qs → AllHold rs → AllHold (qs ++ rs)
+hold-append [] rs h k = k
+hold-append (q ∷ qs) rs h k = (h .0, hold-append qs rs (h .1) k)
+
+pub hold-first : {R : Type 0} (qs rs : List (Rule R)) → AllHold (qs ++ rs) → AllHold qs
+hold-first [] rs h = tt
+hold-first (q ∷ qs) rs h = (h .0, hold-first qs rs (h .1))
+
+pub hold-second : {R : Type 0} (qs rs : List (Rule R)) → AllHold (qs ++ rs) → AllHold rs
+hold-second [] rs h = h
+hold-second (q ∷ qs) rs h = hold-second qs rs (h .1)

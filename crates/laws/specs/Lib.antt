@@ -1,0 +1,4 @@
+pub mod Places
+pub mod Digits
+pub mod Writing
+pub mod Rules

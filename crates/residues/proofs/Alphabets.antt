@@ -1,0 +1,31 @@
+-- Laws of the alphabets and of valid codes. Assumes nothing.
+use mathlib.Core.Path.{_≡_, refl}
+use mathlib.Core.Bool.{Bool, true, false, cond}
+use mathlib.Core.List.{List}
+use Prim.Native.Nat.{ℕ, _<_, _≤_}
+use native.Mathlib.Omega.{arith}
+use lib.Dec.{eqb, lit≤}
+use lib.ListN.{getD}
+use Rattle.laws.specs.Places.{every}
+use Rattle.laws.proofs.Places.{every-at}
+use Rattle.laws.specs.Digits.{allBelow}
+use Rattle.laws.proofs.Tests.{bool-cases}
+use Rattle.laws.proofs.Digits.{below-weaken}
+use borrow.Author.Tests.{ltb-true}
+use lib.Dec.{ltb}
+use Rattle.residues.specs.Alphabets.{isAmino, codeLimit, validCodes}
+use Rattle.residues.specs.Tables.{ambiguityCode, proteinCode}
+
+-- no alphabet has more than the 28 amino codes
+pub limit-most : (alphabet : ℕ) → codeLimit alphabet ≤ 28
+limit-most alphabet = bool-cases (isAmino alphabet) (λ e. rw e (lit≤ tt)) (λ e. rw e (lit≤ tt))
+
+pub valid-below : (alphabet : ℕ) (codes : List ℕ) → validCodes alphabet codes ≡ true → allBelow 28 codes ≡ true
+valid-below alphabet codes e = below-weaken (codeLimit alphabet) 28 codes (limit-most alphabet) e
+
+-- the tables hold valid codes
+pub ambiguity-valid : (v : ℕ) → v < 16 → ambiguityCode v < 16
+ambiguity-valid v h = ltb-true _ _ (every-at (λ k. ltb (ambiguityCode k) 16) 16 v h refl)
+
+pub protein-valid : (v : ℕ) → v < 28 → proteinCode v < 28
+protein-valid v h = ltb-true _ _ (every-at (λ k. ltb (proteinCode k) 28) 28 v h refl)
