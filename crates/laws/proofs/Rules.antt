@@ -2,7 +2,7 @@
 use mathlib.Core.Path.{_≡_, refl, sym, _∙_}
 use mathlib.Core.Bool.{Bool, true, false, cond}
 use mathlib.Core.List.{List, [], _∷_, _++_}
-use Rattle.laws.specs.Rules.{Rule, verdict, AllHold}
+use Rattle.laws.specs.Rules.{Rule, ask, verdict, AllHold}
 
 module _ {R A : Type 0} (refused : R → A) where
   -- Where every rule holds the check passes.
@@ -10,15 +10,19 @@ module _ {R A : Type 0} (refused : R → A) where
   verdict-passes passed [] h = refl
   verdict-passes passed (r ∷ rs) h = rw (h .0) (verdict-passes passed rs (h .1))
 
-  -- Where the check passes every rule holds.
-  pub passes-all : (passed : A) (rs : List (Rule R)) → ((r : R) → refused r ≡ passed → ⊥) → verdict refused passed rs ≡ passed → AllHold rs
-  passes-all passed [] n e = tt
-  passes-all passed (r ∷ rs) n e = go (r .holds) refl e (passes-all passed rs n)
+  -- Where the check answers what is no refusal, every rule holds.
+  pub not-refused : (passed x : A) (rs : List (Rule R)) → ((r : R) → refused r ≡ x → ⊥) → verdict refused passed rs ≡ x → AllHold rs
+  not-refused passed x [] n e = tt
+  not-refused passed x (r ∷ rs) n e = go (r .holds) refl e (not-refused passed x rs n)
     where
-      go : (b : Bool) → r .holds ≡ b → cond b (verdict refused passed rs) (refused (r .refusal)) ≡ passed
-          → (verdict refused passed rs ≡ passed → AllHold rs) → (r .holds ≡ true) × AllHold rs
+      go : (b : Bool) → r .holds ≡ b → cond b (verdict refused passed rs) (refused (r .refusal)) ≡ x
+          → (verdict refused passed rs ≡ x → AllHold rs) → (r .holds ≡ true) × AllHold rs
       go true h f k = (h, k f)
       go false h f k = absurd (n (r .refusal) f)
+
+  -- Where the check passes every rule holds.
+  pub passes-all : (passed : A) (rs : List (Rule R)) → ((r : R) → refused r ≡ passed → ⊥) → verdict refused passed rs ≡ passed → AllHold rs
+  passes-all passed rs n e = not-refused passed passed rs n e
 
   -- The rules of a second list are asked where those of the first all hold.
   pub verdict-append : (passed : A) (qs rs : List (Rule R)) → verdict refused passed (qs ++ rs) ≡ verdict refused (verdict refused passed rs) qs
@@ -48,3 +52,20 @@ hold-first (q ∷ qs) rs h = (h .0, hold-first qs rs (h .1))
 pub hold-second : {R : Type 0} (qs rs : List (Rule R)) → AllHold (qs ++ rs) → AllHold rs
 hold-second [] rs h = h
 hold-second (q ∷ qs) rs h = hold-second qs rs (h .1)
+
+-- A rule asked last: it decides only where all rules before it hold.
+module _ {R A : Type 0} (refused : R → A) (passed : A) (rs : List (Rule R)) (b : Bool) (last : R) where
+  pub last-holds : b ≡ true → verdict refused passed (rs ++ (ask b last ∷ [])) ≡ verdict refused passed rs
+  last-holds h = verdict-append refused passed rs (ask b last ∷ []) ∙ rw h
+
+  pub last-broken : (x : A) → ((r : R) → refused r ≡ x → ⊥) → b ≡ false → verdict refused passed rs ≡ x
+      → verdict refused passed (rs ++ (ask b last ∷ [])) ≡ refused last
+  last-broken x n h e =
+      verdict-append refused passed rs (ask b last ∷ [])
+      ∙ (verdict-passes refused (verdict refused passed (ask b last ∷ [])) rs (not-refused refused passed x rs n e) ∙ rw h)
+
+  pub last-unasked : (r : R) → ((s : R) → refused s ≡ refused r → s ≡ r) → (passed ≡ refused r → ⊥) → verdict refused passed rs ≡ refused r
+      → verdict refused passed (rs ++ (ask b last ∷ [])) ≡ refused r
+  last-unasked r i n e =
+      verdict-append refused passed rs (ask b last ∷ [])
+      ∙ refused-any refused passed rs r i n e refused (verdict refused passed (ask b last ∷ []))
