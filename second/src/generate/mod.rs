@@ -1,0 +1,63 @@
+//! The cases that the library is compared on: valid inputs, damage aimed at every refusal, both sides of each
+//! limit, two faults at once, real samples, and random changes. The same seed makes the same cases.
+
+pub mod faults;
+pub mod pack_cases;
+pub mod rng;
+pub mod runs;
+pub mod samples;
+pub mod unpack_cases;
+
+use crate::call::*;
+use rng::Rng;
+use samples::Samples;
+
+/// A call to compare. `aim` is the number that the generator means to reach, where it knows it.
+#[derive(Clone, Debug)]
+pub struct Case {
+    pub call: Call,
+    pub aim: Option<u32>,
+    pub note: String,
+}
+
+impl Case {
+    pub fn aimed(call: Call, aim: u32, note: impl Into<String>) -> Case {
+        Case { call, aim: Some(aim), note: note.into() }
+    }
+
+    pub fn free(call: Call, note: impl Into<String>) -> Case {
+        Case { call, aim: None, note: note.into() }
+    }
+}
+
+/// The calls that have a generator.
+pub const GENERATED: [u8; 4] = [PACK, UNPACK, CONSOLE_PACK, CONSOLE_UNPACK];
+
+/// The cases of a call: every planned one, then random ones until there are as many as asked.
+pub fn cases(byte: u8, seed: u64, count: usize, samples: &Samples) -> Vec<Case> {
+    let mut rng = Rng::new(seed.wrapping_mul(1_000_003).wrapping_add(byte as u64));
+    let mut cases = planned(byte, &mut rng, samples);
+    while cases.len() < count {
+        cases.push(random(byte, &mut rng, samples));
+    }
+    cases
+}
+
+/// Cases that are made in every comparison, whatever the count.
+pub fn planned(byte: u8, rng: &mut Rng, samples: &Samples) -> Vec<Case> {
+    match byte {
+        PACK | CONSOLE_PACK => pack_cases::planned(byte, rng, samples),
+        UNPACK | CONSOLE_UNPACK => unpack_cases::planned(byte, rng, samples),
+        other => panic!("no generator for call {other}"),
+    }
+}
+
+/// One more case by chance.
+pub fn random(byte: u8, rng: &mut Rng, samples: &Samples) -> Case {
+    let _ = samples;
+    match byte {
+        PACK | CONSOLE_PACK => pack_cases::random(byte, rng),
+        UNPACK | CONSOLE_UNPACK => unpack_cases::random(byte, rng),
+        other => panic!("no generator for call {other}"),
+    }
+}

@@ -1,0 +1,15 @@
+//! An independent second reading of document 01: every call of the library, written from the documents alone,
+//! the cases it is compared on, and the protocol they travel in.
+
+pub mod answers;
+pub mod call;
+pub mod comparison;
+pub mod console;
+pub mod fields;
+pub mod generate;
+pub mod line;
+pub mod packets;
+pub mod residues;
+pub mod runs;
+pub mod serve;
+pub mod stream;

@@ -1,0 +1,67 @@
+//! The line that a call must give, by this program's own reading of document 01.
+
+use crate::answers::Answer;
+use crate::call::*;
+use crate::console::{console_pack, console_unpack};
+use crate::runs::{pack, unpack, RunSize};
+use crate::stream::{hex, packet_hex};
+
+/// The answer number, the results on success, and every output after the call.
+pub fn line_of(call: &Call) -> String {
+    match call.byte {
+        PACK => pack_line(call),
+        UNPACK => unpack_line(call),
+        CONSOLE_PACK => console_pack_line(call),
+        CONSOLE_UNPACK => console_unpack_line(call),
+        other => panic!("no line for call {other}"),
+    }
+}
+
+/// The answer number that a line begins with.
+pub fn number_of(line: &str) -> Option<u32> {
+    line.split(' ').next()?.parse().ok()
+}
+
+/// Fields by one space: the number, the results where there are any, the outputs.
+fn join(answer: Answer<Vec<i128>>, outputs: &[String]) -> String {
+    let mut fields = match answer {
+        Ok(values) => {
+            let mut fields = vec!["0".to_string()];
+            fields.extend(values.iter().map(i128::to_string));
+            fields
+        }
+        Err(number) => vec![number.to_string()],
+    };
+    fields.extend(outputs.iter().cloned());
+    fields.join(" ")
+}
+
+fn run_values(size: RunSize) -> Vec<i128> {
+    vec![size.packets, size.residues]
+}
+
+fn pack_line(call: &Call) -> String {
+    let mut buffer = call.packet_output(3);
+    let answer = pack(call.number(0), call.range(1), call.number(2), &mut buffer);
+    join(answer.map(run_values), &[packet_hex(&buffer)])
+}
+
+fn unpack_line(call: &Call) -> String {
+    let mut output = call.output(2);
+    let answer = unpack(call.number(0), call.packets(1), &mut output);
+    join(answer.map(run_values), &[hex(&output)])
+}
+
+fn console_pack_line(call: &Call) -> String {
+    let mut buffer = call.output(2);
+    let mut results = call.output(4);
+    let answer = console_pack(call.number(0), call.range(1), &mut buffer, call.number(3), &mut results);
+    join(answer.map(|()| vec![]), &[hex(&buffer), hex(&results)])
+}
+
+fn console_unpack_line(call: &Call) -> String {
+    let mut output = call.output(2);
+    let mut results = call.output(3);
+    let answer = console_unpack(call.number(0), call.range(1), &mut output, &mut results);
+    join(answer.map(|()| vec![]), &[hex(&output), hex(&results)])
+}
