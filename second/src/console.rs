@@ -4,6 +4,7 @@
 use crate::answers::*;
 use crate::fields::{little_bytes, little_unsigned};
 use crate::runs::{residues_for, run_for};
+use crate::volume::check_volume;
 
 /// Room for as many results of eight bytes.
 fn ask_results(results: &[u8], count: usize) -> Answer<()> {
@@ -15,6 +16,14 @@ fn write_results(results: &mut [u8], values: &[i128]) {
     for (k, value) in values.iter().enumerate() {
         results[8 * k..8 * k + 8].copy_from_slice(&little_bytes(*value, 8));
     }
+}
+
+/// The volume check with its eight results.
+pub fn console_check_volume(index: &[u8], sequence: &[u8], header: &[u8], results: &mut [u8]) -> Answer<()> {
+    let record = check_volume(index, sequence, header)?;
+    ask_results(results, 8)?;
+    write_results(results, &record.values());
+    Ok(())
 }
 
 /// Packing into a buffer of little-endian bytes; bytes past its last whole packet are unused.

@@ -2,15 +2,20 @@
 
 use crate::answers::Answer;
 use crate::call::*;
-use crate::console::{console_pack, console_unpack};
+use crate::console::{console_check_volume, console_pack, console_unpack};
 use crate::runs::{pack, unpack, RunSize};
+use crate::sequence::decode;
 use crate::stream::{hex, packet_hex};
+use crate::volume::check_volume;
 
 /// The answer number, the results on success, and every output after the call.
 pub fn line_of(call: &Call) -> String {
     match call.byte {
+        VOLUME_CHECK => volume_check_line(call),
+        DECODE => decode_line(call),
         PACK => pack_line(call),
         UNPACK => unpack_line(call),
+        CONSOLE_VOLUME_CHECK => console_volume_check_line(call),
         CONSOLE_PACK => console_pack_line(call),
         CONSOLE_UNPACK => console_unpack_line(call),
         other => panic!("no line for call {other}"),
@@ -40,6 +45,17 @@ fn run_values(size: RunSize) -> Vec<i128> {
     vec![size.packets, size.residues]
 }
 
+fn volume_check_line(call: &Call) -> String {
+    let answer = check_volume(call.range(0), call.range(1), call.range(2));
+    join(answer.map(|record| record.values()), &[])
+}
+
+fn decode_line(call: &Call) -> String {
+    let mut output = call.output(3);
+    let answer = decode(call.range(0), call.range(1), call.number(2), &mut output);
+    join(answer.map(|length| vec![length]), &[hex(&output)])
+}
+
 fn pack_line(call: &Call) -> String {
     let mut buffer = call.packet_output(3);
     let answer = pack(call.number(0), call.range(1), call.number(2), &mut buffer);
@@ -50,6 +66,12 @@ fn unpack_line(call: &Call) -> String {
     let mut output = call.output(2);
     let answer = unpack(call.number(0), call.packets(1), &mut output);
     join(answer.map(run_values), &[hex(&output)])
+}
+
+fn console_volume_check_line(call: &Call) -> String {
+    let mut results = call.output(3);
+    let answer = console_check_volume(call.range(0), call.range(1), call.range(2), &mut results);
+    join(answer.map(|()| vec![]), &[hex(&results)])
 }
 
 fn console_pack_line(call: &Call) -> String {
