@@ -20,8 +20,8 @@ pub struct Damaged<P> {
     pub note: String,
 }
 
-/// Every fault alone, and every two faults together. The later fault is put in first, so that it meets a valid
-/// plan; the earlier one decides the number.
+/// Every fault alone, and together with later ones: its neighbours, and some by chance. The later fault is put
+/// in first, so that it meets a valid plan; the earlier one decides the number.
 pub fn alone_and_in_pairs<P: Clone>(
     faults: &[Fault<P>],
     rng: &mut Rng,
@@ -30,11 +30,27 @@ pub fn alone_and_in_pairs<P: Clone>(
     let mut damaged = Vec::new();
     for (k, first) in faults.iter().enumerate() {
         damaged.push(damage(valid(rng), &[first], rng));
-        for second in &faults[k + 1..] {
-            damaged.push(damage(valid(rng), &[first, second], rng));
+        let mut others = neighbours(faults, k);
+        if k + 1 < faults.len() {
+            others.extend((0..3).map(|_| rng.between(k + 1, faults.len() - 1)));
+        }
+        others.sort();
+        others.dedup();
+        for other in others {
+            damaged.push(damage(valid(rng), &[first, &faults[other]], rng));
         }
     }
     damaged
+}
+
+/// The fault behind one, and all of the next number in the order of refusals.
+fn neighbours<P>(faults: &[Fault<P>], k: usize) -> Vec<usize> {
+    let later = k + 1..faults.len();
+    let next_group = later.clone().find(|j| faults[*j].number != faults[k].number);
+    let in_group = |j: &usize| {
+        next_group.is_some_and(|g| *j >= g && (g..=*j).all(|i| faults[i].number == faults[g].number))
+    };
+    later.filter(|j| *j == k + 1 || in_group(j)).collect()
 }
 
 /// One fault, or two, by chance.

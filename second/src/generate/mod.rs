@@ -1,12 +1,17 @@
 //! The cases that the library is compared on: valid inputs, damage aimed at every refusal, both sides of each
 //! limit, two faults at once, real samples, and random changes. The same seed makes the same cases.
 
+pub mod decode_cases;
+pub mod dna;
 pub mod faults;
+pub mod index_faults;
 pub mod pack_cases;
 pub mod rng;
 pub mod runs;
 pub mod samples;
 pub mod unpack_cases;
+pub mod volume_cases;
+pub mod volumes;
 
 use crate::call::*;
 use rng::Rng;
@@ -31,7 +36,8 @@ impl Case {
 }
 
 /// The calls that have a generator.
-pub const GENERATED: [u8; 4] = [PACK, UNPACK, CONSOLE_PACK, CONSOLE_UNPACK];
+pub const GENERATED: [u8; 7] =
+    [VOLUME_CHECK, DECODE, PACK, UNPACK, CONSOLE_VOLUME_CHECK, CONSOLE_PACK, CONSOLE_UNPACK];
 
 /// The cases of a call: every planned one, then random ones until there are as many as asked.
 pub fn cases(byte: u8, seed: u64, count: usize, samples: &Samples) -> Vec<Case> {
@@ -46,6 +52,8 @@ pub fn cases(byte: u8, seed: u64, count: usize, samples: &Samples) -> Vec<Case> 
 /// Cases that are made in every comparison, whatever the count.
 pub fn planned(byte: u8, rng: &mut Rng, samples: &Samples) -> Vec<Case> {
     match byte {
+        VOLUME_CHECK | CONSOLE_VOLUME_CHECK => volume_cases::planned(byte, rng, samples),
+        DECODE => decode_cases::planned(rng, samples),
         PACK | CONSOLE_PACK => pack_cases::planned(byte, rng, samples),
         UNPACK | CONSOLE_UNPACK => unpack_cases::planned(byte, rng, samples),
         other => panic!("no generator for call {other}"),
@@ -56,8 +64,30 @@ pub fn planned(byte: u8, rng: &mut Rng, samples: &Samples) -> Vec<Case> {
 pub fn random(byte: u8, rng: &mut Rng, samples: &Samples) -> Case {
     let _ = samples;
     match byte {
+        VOLUME_CHECK | CONSOLE_VOLUME_CHECK => volume_cases::random(byte, rng),
+        DECODE => decode_cases::random(rng),
         PACK | CONSOLE_PACK => pack_cases::random(byte, rng),
         UNPACK | CONSOLE_UNPACK => unpack_cases::random(byte, rng),
         other => panic!("no generator for call {other}"),
     }
+}
+
+/// The call with one to three bytes changed in one of these ranges, or one byte less or more.
+fn spoiled(mut call: Call, ranges: &[usize], rng: &mut Rng) -> Call {
+    let at = *rng.pick(ranges);
+    if let Argument::Range(bytes) = &mut call.arguments[at] {
+        match rng.below(8) {
+            0 => drop(bytes.pop()),
+            1 => bytes.push(rng.byte()),
+            _ if bytes.is_empty() => {}
+            _ => {
+                for _ in 0..rng.between(1, 3) {
+                    let place = rng.below(bytes.len());
+                    bytes[place] =
+                        if rng.chance(50) { rng.byte() } else { bytes[place] ^ (1 << rng.below(8)) };
+                }
+            }
+        }
+    }
+    call
 }
