@@ -3,6 +3,8 @@
 use crate::answers::Answer;
 use crate::call::*;
 use crate::console::{console_check_volume, console_pack, console_unpack};
+use crate::dsqdata::check_set;
+use crate::lookup::lookup;
 use crate::runs::{pack, unpack, RunSize};
 use crate::sequence::decode;
 use crate::stream::{hex, packet_hex};
@@ -15,6 +17,8 @@ pub fn line_of(call: &Call) -> String {
         DECODE => decode_line(call),
         PACK => pack_line(call),
         UNPACK => unpack_line(call),
+        SET_CHECK => set_check_line(call),
+        LOOKUP => lookup_line(call),
         CONSOLE_VOLUME_CHECK => console_volume_check_line(call),
         CONSOLE_PACK => console_pack_line(call),
         CONSOLE_UNPACK => console_unpack_line(call),
@@ -66,6 +70,17 @@ fn unpack_line(call: &Call) -> String {
     let mut output = call.output(2);
     let answer = unpack(call.number(0), call.packets(1), &mut output);
     join(answer.map(run_values), &[hex(&output)])
+}
+
+fn set_check_line(call: &Call) -> String {
+    let answer = check_set(call.range(0), call.range(1), call.range(2));
+    join(answer.map(|record| record.values()), &[])
+}
+
+/// The record's count is its ninth field.
+fn lookup_line(call: &Call) -> String {
+    let answer = lookup(call.number(8), call.range(10), call.number(11));
+    join(answer.map(|found| found.values()), &[])
 }
 
 fn console_volume_check_line(call: &Call) -> String {
