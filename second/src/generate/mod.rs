@@ -5,10 +5,14 @@ pub mod decode_cases;
 pub mod dna;
 pub mod faults;
 pub mod index_faults;
+pub mod lookup_cases;
 pub mod pack_cases;
 pub mod rng;
 pub mod runs;
 pub mod samples;
+pub mod set_cases;
+pub mod set_faults;
+pub mod sets;
 pub mod unpack_cases;
 pub mod volume_cases;
 pub mod volumes;
@@ -36,8 +40,17 @@ impl Case {
 }
 
 /// The calls that have a generator.
-pub const GENERATED: [u8; 7] =
-    [VOLUME_CHECK, DECODE, PACK, UNPACK, CONSOLE_VOLUME_CHECK, CONSOLE_PACK, CONSOLE_UNPACK];
+pub const GENERATED: [u8; 9] = [
+    VOLUME_CHECK,
+    DECODE,
+    PACK,
+    UNPACK,
+    SET_CHECK,
+    LOOKUP,
+    CONSOLE_VOLUME_CHECK,
+    CONSOLE_PACK,
+    CONSOLE_UNPACK,
+];
 
 /// The cases of a call: every planned one, then random ones until there are as many as asked.
 pub fn cases(byte: u8, seed: u64, count: usize, samples: &Samples) -> Vec<Case> {
@@ -54,6 +67,8 @@ pub fn planned(byte: u8, rng: &mut Rng, samples: &Samples) -> Vec<Case> {
     match byte {
         VOLUME_CHECK | CONSOLE_VOLUME_CHECK => volume_cases::planned(byte, rng, samples),
         DECODE => decode_cases::planned(rng, samples),
+        SET_CHECK => set_cases::planned(rng, samples),
+        LOOKUP => lookup_cases::planned(rng, samples),
         PACK | CONSOLE_PACK => pack_cases::planned(byte, rng, samples),
         UNPACK | CONSOLE_UNPACK => unpack_cases::planned(byte, rng, samples),
         other => panic!("no generator for call {other}"),
@@ -66,6 +81,8 @@ pub fn random(byte: u8, rng: &mut Rng, samples: &Samples) -> Case {
     match byte {
         VOLUME_CHECK | CONSOLE_VOLUME_CHECK => volume_cases::random(byte, rng),
         DECODE => decode_cases::random(rng),
+        SET_CHECK => set_cases::random(rng),
+        LOOKUP => lookup_cases::random(rng),
         PACK | CONSOLE_PACK => pack_cases::random(byte, rng),
         UNPACK | CONSOLE_UNPACK => unpack_cases::random(byte, rng),
         other => panic!("no generator for call {other}"),
