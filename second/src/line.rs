@@ -4,7 +4,9 @@ use crate::answers::Answer;
 use crate::call::*;
 use crate::console::{console_check_volume, console_pack, console_unpack};
 use crate::dsqdata::check_set;
+use crate::headers::{Identifier, ObjectId, GI, LOCAL};
 use crate::lookup::lookup;
+use crate::records::{identifier, label, label_bytes, walker_step};
 use crate::runs::{pack, unpack, RunSize};
 use crate::sequence::decode;
 use crate::stream::{hex, packet_hex};
@@ -19,6 +21,9 @@ pub fn line_of(call: &Call) -> String {
         UNPACK => unpack_line(call),
         SET_CHECK => set_check_line(call),
         LOOKUP => lookup_line(call),
+        IDENTIFIER => identifier_line(call),
+        WALKER_STEP => walker_step_line(call),
+        LABEL => label_line(call),
         CONSOLE_VOLUME_CHECK => console_volume_check_line(call),
         CONSOLE_PACK => console_pack_line(call),
         CONSOLE_UNPACK => console_unpack_line(call),
@@ -81,6 +86,33 @@ fn set_check_line(call: &Call) -> String {
 fn lookup_line(call: &Call) -> String {
     let answer = lookup(call.number(8), call.range(10), call.number(11));
     join(answer.map(|found| found.values()), &[])
+}
+
+fn identifier_line(call: &Call) -> String {
+    let answer = identifier(call.range(0), call.number(1), call.number(2), call.number(3));
+    join(answer.map(identifier_values), &[])
+}
+
+/// The kind byte; then for local 0 and the number, or 1 and the text's start and length; for gi the number.
+fn identifier_values(identifier: Identifier) -> Vec<i128> {
+    match identifier {
+        Identifier::Local(ObjectId::Number(value)) => vec![LOCAL as i128, 0, value],
+        Identifier::Local(ObjectId::Text(part)) => vec![LOCAL as i128, 1, part.start, part.length],
+        Identifier::Gi(value) => vec![GI as i128, value],
+        Identifier::Other(tag) => vec![tag as i128],
+    }
+}
+
+fn walker_step_line(call: &Call) -> String {
+    let answer = walker_step(call.range(0), call.number(1), call.number(2), call.number(3));
+    join(answer.map(|title| vec![title.start, title.length]), &[])
+}
+
+/// The part stands behind the number, on a refusal too.
+fn label_line(call: &Call) -> String {
+    let answer = label(call.range(0), call.range(1), call.number(2));
+    let part = label_bytes(call.range(0), call.range(1), answer);
+    join(answer.map(|_| vec![]), &[hex(part)])
 }
 
 fn console_volume_check_line(call: &Call) -> String {
