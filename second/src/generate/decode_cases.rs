@@ -173,6 +173,7 @@ pub fn planned(rng: &mut Rng, samples: &Samples) -> Vec<Case> {
         }
         cases.extend(elsewhere(kind, rng));
         cases.extend(numbers(kind, rng));
+        cases.extend(rooms(kind, rng));
     }
     cases.extend(tables(rng));
     cases.extend(protein_bytes(rng));
@@ -221,6 +222,20 @@ fn numbers(kind: i128, rng: &mut Rng) -> Vec<Case> {
         for number in [n as u64, 1 << 32, u64::MAX] {
             plan.number = number;
             cases.push(Case::aimed(call(&plan, rng), NO_SUCH_NUMBER, format!("number {number} of {n}")));
+        }
+    }
+    cases
+}
+
+/// Exactly enough room, one byte less, and none.
+fn rooms(kind: i128, rng: &mut Rng) -> Vec<Case> {
+    let mut cases = Vec::new();
+    for _ in 0..8 {
+        let mut plan = to_damage(kind, rng);
+        let length = plan.lengths[chosen(&plan)];
+        for (room, aim) in [(length, 0), (length - 1, NO_ROOM), (0, NO_ROOM)] {
+            plan.room = room;
+            cases.push(Case::aimed(call(&plan, rng), aim, format!("room for {room} of {length}")));
         }
     }
     cases

@@ -5,8 +5,12 @@ pub mod decode_cases;
 pub mod dna;
 pub mod faults;
 pub mod index_faults;
+pub mod label_cases;
 pub mod lookup_cases;
+pub mod nodes;
 pub mod pack_cases;
+pub mod record_cases;
+pub mod record_faults;
 pub mod rng;
 pub mod runs;
 pub mod samples;
@@ -39,14 +43,17 @@ impl Case {
     }
 }
 
-/// The calls that have a generator.
-pub const GENERATED: [u8; 9] = [
+/// The calls that have a generator: all of them.
+pub const GENERATED: [u8; 12] = [
     VOLUME_CHECK,
     DECODE,
     PACK,
     UNPACK,
     SET_CHECK,
     LOOKUP,
+    IDENTIFIER,
+    WALKER_STEP,
+    LABEL,
     CONSOLE_VOLUME_CHECK,
     CONSOLE_PACK,
     CONSOLE_UNPACK,
@@ -57,7 +64,7 @@ pub fn cases(byte: u8, seed: u64, count: usize, samples: &Samples) -> Vec<Case> 
     let mut rng = Rng::new(seed.wrapping_mul(1_000_003).wrapping_add(byte as u64));
     let mut cases = planned(byte, &mut rng, samples);
     while cases.len() < count {
-        cases.push(random(byte, &mut rng, samples));
+        cases.push(random(byte, &mut rng));
     }
     cases
 }
@@ -69,6 +76,8 @@ pub fn planned(byte: u8, rng: &mut Rng, samples: &Samples) -> Vec<Case> {
         DECODE => decode_cases::planned(rng, samples),
         SET_CHECK => set_cases::planned(rng, samples),
         LOOKUP => lookup_cases::planned(rng, samples),
+        IDENTIFIER | WALKER_STEP => record_cases::planned(byte, rng, samples),
+        LABEL => label_cases::planned(rng, samples),
         PACK | CONSOLE_PACK => pack_cases::planned(byte, rng, samples),
         UNPACK | CONSOLE_UNPACK => unpack_cases::planned(byte, rng, samples),
         other => panic!("no generator for call {other}"),
@@ -76,13 +85,14 @@ pub fn planned(byte: u8, rng: &mut Rng, samples: &Samples) -> Vec<Case> {
 }
 
 /// One more case by chance.
-pub fn random(byte: u8, rng: &mut Rng, samples: &Samples) -> Case {
-    let _ = samples;
+pub fn random(byte: u8, rng: &mut Rng) -> Case {
     match byte {
         VOLUME_CHECK | CONSOLE_VOLUME_CHECK => volume_cases::random(byte, rng),
         DECODE => decode_cases::random(rng),
         SET_CHECK => set_cases::random(rng),
         LOOKUP => lookup_cases::random(rng),
+        IDENTIFIER | WALKER_STEP => record_cases::random(byte, rng),
+        LABEL => label_cases::random(rng),
         PACK | CONSOLE_PACK => pack_cases::random(byte, rng),
         UNPACK | CONSOLE_UNPACK => unpack_cases::random(byte, rng),
         other => panic!("no generator for call {other}"),
