@@ -1,5 +1,6 @@
 //! The comparison: cases go to a program that speaks CASES.md, and its lines are held against our own.
 
+use crate::answers::TOO_LARGE;
 use crate::call::{signature, Call};
 use crate::generate::Case;
 use crate::line::{line_of, number_of};
@@ -12,6 +13,9 @@ use std::thread;
 
 /// How many cases one run of the program gets.
 const BATCH: usize = 250;
+
+/// How many differences of a call are shown.
+const SHOWN: usize = 3;
 
 /// A case on which the two programs do not agree.
 pub struct Difference {
@@ -31,6 +35,7 @@ pub struct Outcome {
 /// All lines that a program wrote for a stream, and what else is known of its end.
 struct Reply {
     lines: Vec<String>,
+    was_killed: bool,
     end: String,
 }
 
@@ -46,14 +51,22 @@ pub fn compare(program: &Path, cases: &[Case]) -> Result<Outcome, String> {
     Ok(outcome)
 }
 
-/// Counts what our lines reach and notes every line that differs or is missing.
+impl Outcome {
+    /// Counts one case, and notes it where the two lines are not the same.
+    pub fn count(&mut self, case: &Case, expected: &str, found: String) {
+        self.cases += 1;
+        let number = number_of(expected).expect("our lines begin with a number");
+        *self.reached.entry(number).or_insert(0) += 1;
+        if found != expected {
+            self.differences.push(Difference { case: case.clone(), expected: expected.to_string(), found });
+        }
+    }
+}
+
+/// Counts every line of a batch; a missing one is a difference, and so is one too many.
 fn judge(outcome: &mut Outcome, batch: &[Case], expected: &[String], reply: &Reply) {
     for (k, (case, expected)) in batch.iter().zip(expected).enumerate() {
-        outcome.cases += 1;
-        let number = number_of(expected).expect("our lines begin with a number");
-        *outcome.reached.entry(number).or_insert(0) += 1;
         let found = match reply.lines.get(k) {
-            Some(line) if line == expected => continue,
             Some(line) => line.clone(),
             None => format!(
                 "nothing: the program ended early after {} of {} lines, {}",
@@ -62,7 +75,7 @@ fn judge(outcome: &mut Outcome, batch: &[Case], expected: &[String], reply: &Rep
                 reply.end
             ),
         };
-        outcome.differences.push(Difference { case: case.clone(), expected: expected.clone(), found });
+        outcome.count(case, expected, found);
     }
     if reply.lines.len() > batch.len() {
         let found = format!(
@@ -72,6 +85,11 @@ fn judge(outcome: &mut Outcome, batch: &[Case], expected: &[String], reply: &Rep
         );
         let case = batch[batch.len() - 1].clone();
         outcome.differences.push(Difference { case, expected: "the end".to_string(), found });
+    }
+    if reply.was_killed {
+        let case = batch[batch.len() - 1].clone();
+        let expected = "an end by itself".to_string();
+        outcome.differences.push(Difference { case, expected, found: reply.end.clone() });
     }
 }
 
@@ -101,7 +119,8 @@ fn run(program: &Path, stream: Vec<u8>) -> Result<Reply, String> {
     let errors = listener.join().expect("the listener does not panic");
     let status = child.wait().map_err(|error| say("cannot wait for it", error))?;
     let lines = lines_in(&String::from_utf8_lossy(&text));
-    Ok(Reply { lines, end: format!("{status}, its error text: {errors:?}") })
+    let end = format!("{status}, its error text: {errors:?}");
+    Ok(Reply { lines, was_killed: status.code().is_none(), end })
 }
 
 /// The lines of a text. A last one without its line feed is kept, and marked.
@@ -114,10 +133,38 @@ fn lines_in(text: &str) -> Vec<String> {
     lines
 }
 
-/// The numbers that a call can give and the cases did not reach; 22 is not asked, the protocol cannot make it.
-pub fn missed(byte: u8, reached: &BTreeMap<u32, usize>) -> Vec<u32> {
+/// The numbers that a call can give and the cases did not reach. 22 is asked only where the cases can make it.
+pub fn missed(byte: u8, reached: &BTreeMap<u32, usize>, with_22: bool) -> Vec<u32> {
     let numbers = signature(byte).map_or(&[] as &[u32], |signature| signature.numbers);
-    numbers.iter().copied().filter(|number| *number != 22 && !reached.contains_key(number)).collect()
+    let asked = |number: &u32| *number != TOO_LARGE || with_22;
+    numbers.iter().copied().filter(asked).filter(|number| !reached.contains_key(number)).collect()
+}
+
+/// Prints what came out of one call; gives how many things are wrong with it. `about_22` is said where the cases
+/// cannot make that number.
+pub fn report(byte: u8, outcome: &Outcome, about_22: Option<&str>) -> usize {
+    let name = signature(byte).map_or("", |signature| signature.name);
+    println!("call {byte} ({name}): {} cases", outcome.cases);
+    let mut reached: Vec<String> =
+        outcome.reached.iter().map(|(number, count)| format!("{number}: {count}")).collect();
+    reached.extend(about_22.map(str::to_string));
+    println!("  answers {}", reached.join(", "));
+    for difference in outcome.differences.iter().take(SHOWN) {
+        println!(
+            "  DIFFERENCE ({}) in {}",
+            difference.case.note,
+            describe_call(&difference.case.call).trim_end()
+        );
+        println!("    expected: {}\n    found:    {}", difference.expected, difference.found);
+    }
+    if outcome.differences.len() > SHOWN {
+        println!("  and {} differences more", outcome.differences.len() - SHOWN);
+    }
+    let missed = missed(byte, &outcome.reached, about_22.is_none());
+    for number in &missed {
+        println!("  NOT REACHED: answer {number}");
+    }
+    outcome.differences.len() + missed.len()
 }
 
 /// A call for people: its name and its arguments in hex.

@@ -3,6 +3,7 @@
 
 use crate::answers::*;
 use crate::fields::{little_bytes, little_unsigned};
+use crate::residues::Alphabet;
 use crate::runs::{residues_for, run_for};
 use crate::volume::check_volume;
 
@@ -48,6 +49,7 @@ pub fn console_pack(
 pub fn console_unpack(alphabet: i128, packets: &[u8], output: &mut [u8], results: &mut [u8]) -> Answer<()> {
     ask_sizes(&[packets])?;
     ask(packets.len() as i128 % 4 == 0, ENDS_TOO_EARLY)?;
+    let alphabet = Alphabet::of_number(alphabet)?;
     let run = packets_of_bytes(packets);
     let residues = residues_for(alphabet, &run, output.len() as i128)?;
     ask_results(results, 2)?;

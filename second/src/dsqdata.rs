@@ -90,7 +90,7 @@ pub fn check_set(index: &[u8], metadata: &[u8], sequence: &[u8]) -> Answer<SetRe
     ask(record.count <= MOST_SEQUENCES, OUT_OF_RANGE)?;
     ask(index.len() as i128 >= 52 + 16 * record.count, ENDS_TOO_EARLY)?;
     ask(index.len() as i128 == 52 + 16 * record.count, LEFT_OVER)?;
-    ask((sequence.len() - 8) % 4 == 0, ENDS_TOO_EARLY)?;
+    ask((sequence.len() as i128 - 8) % 4 == 0, ENDS_TOO_EARLY)?;
     let bodies = Bodies { metadata: metadata[8..].to_vec(), packets: packets_of_bytes(&sequence[8..]) };
     check_bodies(&record, alphabet, &read_ends(index), &bodies)?;
     Ok(record)

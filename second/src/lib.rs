@@ -15,6 +15,7 @@ pub mod line;
 pub mod listing;
 pub mod lookup;
 pub mod metadata;
+pub mod options;
 pub mod packets;
 pub mod records;
 pub mod residues;

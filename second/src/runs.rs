@@ -33,14 +33,14 @@ pub fn run_for(alphabet: i128, codes: &[u8], place: i128, room: i128) -> Answer<
 /// Unpacking takes any well-formed run and writes the first L bytes of its output: 22, 3, 17, 13.
 pub fn unpack(alphabet: i128, packets: &[u32], output: &mut [u8]) -> Answer<RunSize> {
     ask(packets.len() as i128 <= MOST_PACKETS, TOO_LARGE)?;
+    let alphabet = Alphabet::of_number(alphabet)?;
     let residues = residues_for(alphabet, packets, output.len() as i128)?;
     output[..residues.len()].copy_from_slice(&residues);
     Ok(RunSize { packets: packets.len() as i128, residues: residues.len() as i128 })
 }
 
-/// The residues that unpacking will write, after 3, 17 and 13.
-pub fn residues_for(alphabet: i128, packets: &[u32], room: i128) -> Answer<Vec<u8>> {
-    let alphabet = Alphabet::of_number(alphabet)?;
+/// The residues that unpacking will write, after 17 and 13.
+pub fn residues_for(alphabet: Alphabet, packets: &[u32], room: i128) -> Answer<Vec<u8>> {
     ask(is_well_formed(alphabet, packets), BAD_RUN)?;
     let residues = residues_of(packets);
     ask(residues.len() as i128 <= room, NO_ROOM)?;

@@ -71,7 +71,7 @@ fn sequence_offsets_hold(index: &Index, sequence: &[u8]) -> bool {
 fn protein_offsets_hold(index: &Index, sequence: &[u8]) -> bool {
     let offsets = &index.sequence_offsets;
     let first = offsets[0] == 1;
-    let rising = offsets.windows(2).all(|two| two[1] >= two[0] + 1);
+    let rising = offsets.windows(2).all(|two| two[0] < two[1]);
     let last = offsets[offsets.len() - 1] == sequence.len() as i128;
     first && rising && last
 }

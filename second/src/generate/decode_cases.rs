@@ -1,7 +1,7 @@
 //! Cases for decoding one sequence.
 
 use super::dna::{entries, table, two_bit, Entry};
-use super::faults::{alone_and_in_pairs, by_chance, fault, Damaged, Fault};
+use super::faults::{alone_and_in_pairs, by_chance, fault, Change, Damaged, Fault};
 use super::index_faults;
 use super::rng::Rng;
 use super::samples::Samples;
@@ -183,7 +183,7 @@ pub fn planned(rng: &mut Rng, samples: &Samples) -> Vec<Case> {
 
 /// Faults that this sequence does not meet: other entries, header offsets, totals, the file's end.
 fn elsewhere(kind: i128, rng: &mut Rng) -> Vec<Case> {
-    let changes: [(&str, fn(&mut Plan)); 5] = [
+    let changes: [(&str, Change<Plan>); 5] = [
         ("wrong header offsets", |plan| plan.headers = vec![-7; plan.headers.len()]),
         ("wrong totals", |plan| (plan.count, plan.longest) = (77_777, 2_147_483_647)),
         ("bytes behind the file", |plan| plan.sequence.extend([1, 2, 3])),

@@ -13,6 +13,9 @@ pub fn fault<P>(number: u32, note: &'static str, apply: fn(&mut P, &mut Rng)) ->
     Fault { number, note, apply }
 }
 
+/// A change of a plan that leaves nothing to chance.
+pub type Change<P> = fn(&mut P);
+
 /// A plan with faults in it, the number that must come out, and what was done.
 pub struct Damaged<P> {
     pub plan: P,

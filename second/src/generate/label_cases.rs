@@ -1,6 +1,6 @@
 //! Cases for the label call.
 
-use super::faults::{alone_and_in_pairs, by_chance, fault, Damaged, Fault};
+use super::faults::{alone_and_in_pairs, by_chance, fault, Change, Damaged, Fault};
 use super::nodes::{self, Node};
 use super::record_faults::{malformed, too_deep, wrong_records, wrong_shape};
 use super::rng::Rng;
@@ -161,7 +161,7 @@ fn titles(rng: &mut Rng) -> Vec<Case> {
 
 /// Faults that this label does not meet.
 fn elsewhere(kind: i128, rng: &mut Rng) -> Vec<Case> {
-    let changes: [(&str, fn(&mut Plan)); 5] = [
+    let changes: [(&str, Change<Plan>); 5] = [
         ("wrong sequence offsets", |plan| plan.s.fill(-1)),
         ("wrong ambiguity offsets", |plan| plan.a.fill(-1)),
         ("wrong totals", |plan| (plan.count, plan.longest) = (77_777, 2_147_483_647)),

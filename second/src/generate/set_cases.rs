@@ -1,6 +1,6 @@
 //! Cases for the set check.
 
-use super::faults::{alone_and_in_pairs, by_chance, Damaged};
+use super::faults::{alone_and_in_pairs, by_chance, Change, Damaged};
 use super::rng::Rng;
 use super::runs;
 use super::samples::Samples;
@@ -50,7 +50,7 @@ fn small_sets(rng: &mut Rng) -> Vec<Case> {
     for n in [0, 0, 1, 1, 2, 100, 300] {
         cases.push(Case::aimed(call(&Plan::by_chance(n, rng)), 0, format!("a set of {n}")));
     }
-    let changes: [(u32, &str, fn(&mut Plan)); 6] = [
+    let changes: [(u32, &str, Change<Plan>); 6] = [
         (BAD_OFFSETS, "metadata", |plan| plan.metadata.push(1)),
         (BAD_OFFSETS, "a packet", |plan| plan.packets.push(u32::MAX)),
         (ENDS_TOO_EARLY, "half a packet", |plan| plan.odd = vec![0; 2]),

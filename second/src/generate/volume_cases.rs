@@ -1,6 +1,6 @@
 //! Cases for the volume check: the library's, and the console's.
 
-use super::faults::{alone_and_in_pairs, by_chance, fault, Damaged, Fault};
+use super::faults::{alone_and_in_pairs, by_chance, fault, Change, Damaged, Fault};
 use super::index_faults;
 use super::rng::Rng;
 use super::samples::Samples;
@@ -181,7 +181,7 @@ fn small_volumes(byte: u8, rng: &mut Rng) -> Vec<Case> {
 
 /// What a volume without sequences may not have.
 fn empty_volumes(kind: i128, byte: u8, rng: &mut Rng) -> Vec<Case> {
-    let changes: [(u32, &str, fn(&mut Plan)); 6] = [
+    let changes: [(u32, &str, Change<Plan>); 6] = [
         (BAD_OFFSETS, "a byte of header", |plan| plan.header.push(0)),
         (BAD_OFFSETS, "a byte of sequence", |plan| plan.sequence.push(0)),
         (BAD_OFFSETS, "a first offset", |plan| plan.s[0] += 1),

@@ -146,9 +146,8 @@ impl Plan {
 /// A timestamp that ends at a multiple of 8, with some NULs in it and at its end.
 fn timestamp(title_length: usize, rng: &mut Rng) -> Vec<u8> {
     let mut text: Vec<u8> = (0..rng.below(20)).map(|_| *rng.pick(b"Nov 15, 2026\0")).collect();
-    while (16 + title_length + text.len()) % 8 != 0 {
-        text.push(0);
-    }
+    let end = 16 + title_length + text.len();
+    text.resize(text.len() + (8 - end % 8) % 8, 0);
     if rng.chance(10) {
         text.extend([0; 8]);
     }
