@@ -146,7 +146,13 @@ fn bad_tables(residues: usize, rng: &mut Rng) -> Vec<(&'static str, Vec<u8>)> {
     more_said[3] += 2;
     let mut far_more_said = table(is_wide, &[entry(0, 1)]);
     far_more_said[..4].copy_from_slice(&[if is_wide { 255 } else { 127 }, 255, 255, 254]);
+    let mut bit_30 = table(is_wide, &[entry(0, 1)]);
+    bit_30[0] += 0x40;
+    let mut less_said = table(is_wide, &[entry(0, 1), entry(1, 1)]);
+    less_said[3] /= 2;
     vec![
+        ("a large count", bit_30),
+        ("less said than there", less_said),
         ("less than a word", [0; 3][..rng.between(1, 3)].to_vec()),
         ("words missing", more_said),
         ("far more said than there", far_more_said),

@@ -88,7 +88,7 @@ fn offset_faults() -> Vec<Fault<Plan>> {
 fn record_faults() -> Vec<Fault<Plan>> {
     vec![
         fault(BAD_RECORD, "a malformed record", |plan: &mut Plan, rng| {
-            let lines = [nodes::fields(rng), vec![malformed(rng)], vec![too_deep(3, rng)]];
+            let lines = [nodes::fields(rng), malformed(rng), vec![too_deep(3, rng)]];
             replace_record(plan, &nodes::record(&lines));
         }),
         fault(BAD_RECORD, "a wrong shape", |plan, rng| {
@@ -101,7 +101,7 @@ fn record_faults() -> Vec<Fault<Plan>> {
         }),
         fault(BAD_RECORD, "an empty record", |plan, _| replace_record(plan, &[])),
         fault(TOO_DEEP, "a record too deep", |plan, rng| {
-            let lines = [wrong_shape(rng), vec![too_deep(3, rng)], vec![malformed(rng)]];
+            let lines = [wrong_shape(rng), vec![too_deep(3, rng)], malformed(rng)];
             replace_record(plan, &nodes::record(&lines));
         }),
     ]

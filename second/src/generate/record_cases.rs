@@ -2,7 +2,7 @@
 
 use super::faults::{alone_and_in_pairs, by_chance, fault, Damaged, Fault};
 use super::nodes::{self, Node};
-use super::record_faults::{malformed, too_deep, wrong_at_the_bottom, wrong_records, wrong_shape};
+use super::record_faults::*;
 use super::rng::Rng;
 use super::samples::Samples;
 use super::Case;
@@ -82,12 +82,15 @@ fn to_damage(byte: u8, rng: &mut Rng) -> Plan {
 fn faults() -> Vec<Fault<Plan>> {
     let mut faults = place_faults();
     faults.extend([
-        fault(BAD_RECORD, "malformed on the left", |plan: &mut Plan, rng| plan.lines[0].push(malformed(rng))),
+        fault(BAD_RECORD, "malformed on the left", |plan: &mut Plan, rng| plan.lines[0] = malformed(rng)),
         fault(BAD_RECORD, "wrong at depth 17 on the left", |plan, rng| {
-            plan.lines[0].insert(0, wrong_at_the_bottom(3, rng));
+            plan.lines[0] = vec![in_identifier(wrong_at_the_bottom(7, rng))];
         }),
         fault(TOO_DEEP, "too deep", |plan, rng| plan.lines[1].push(too_deep(3, rng))),
-        fault(BAD_RECORD, "malformed on the right", |plan, rng| plan.lines[2].push(malformed(rng))),
+        fault(TOO_DEEP, "too deep in an identifier", |plan, rng| {
+            plan.lines[1] = vec![in_identifier(too_deep(7, rng))];
+        }),
+        fault(BAD_RECORD, "malformed on the right", |plan, rng| plan.lines[2] = malformed(rng)),
         fault(BAD_RECORD, "a wrong shape on the left", |plan, rng| plan.lines[0] = wrong_shape(rng)),
         fault(BAD_RECORD, "a wrong shape on the right", |plan, rng| plan.lines[2] = wrong_shape(rng)),
         fault(NO_SUCH_NUMBER, "a number far above", |plan, rng| {
@@ -128,6 +131,7 @@ pub fn planned(byte: u8, rng: &mut Rng, samples: &Samples) -> Vec<Case> {
     cases.extend(numbers(byte, rng));
     cases.extend(depths(byte, rng));
     cases.extend(whole_records(byte, rng));
+    cases.extend(every_fault(byte, rng));
     cases.extend(cuts(byte, rng));
     cases.extend(real(byte, samples));
     cases
@@ -194,6 +198,21 @@ fn whole_records(byte: u8, rng: &mut Rng) -> Vec<Case> {
     }
     for record in [vec![0x30, 0x80, 0, 0], vec![0x30, 0x80, 0x30, 0x80, 0, 0, 0, 0]] {
         cases.push(Case::aimed(call_on(&[], &record, &[9], None, 0, byte), NO_SUCH_NUMBER, "nothing in it"));
+    }
+    cases
+}
+
+/// Every kind of malformed element and of wrong shape by itself, in a record that is good otherwise.
+fn every_fault(byte: u8, rng: &mut Rng) -> Vec<Case> {
+    let mut lines: Vec<Vec<Node>> =
+        malformed_elements(rng).into_iter().map(|raw| vec![in_identifier(Node::Raw(raw))]).collect();
+    lines.extend(wrong_shapes(rng));
+    let mut cases = Vec::new();
+    for line in lines {
+        let mut plan = Plan::by_chance(byte, rng);
+        let note = format!("{line:02x?}");
+        plan.lines.push(line);
+        cases.push(Case::aimed(plan.call(byte), BAD_RECORD, note));
     }
     cases
 }

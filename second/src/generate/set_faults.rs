@@ -129,6 +129,11 @@ fn run_faults() -> Vec<Fault<Plan>> {
             let at = inner(plan);
             plan.packets[at] |= 0x8000_0000;
         }),
+        fault(BAD_RUN, "a 2-bit packet in an amino run", |plan, _| {
+            let at = inner(plan);
+            plan.alphabet = 3;
+            plan.packets[at] = 0x0555_5555;
+        }),
         fault(BAD_RUN, "an empty last packet", |plan, _| {
             let at = inner(plan);
             plan.packets[at + 1] = u32::MAX;
