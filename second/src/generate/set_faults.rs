@@ -175,8 +175,8 @@ fn metadata_faults() -> Vec<Fault<Plan>> {
             change(plan, rng, |record, _| record.closing.truncate(3))
         }),
         fault(BAD_METADATA, "a byte more", |plan, rng| change(plan, rng, |record, _| record.closing.push(0))),
-        fault(BAD_METADATA, "a NUL in a name", |plan, rng| {
-            change(plan, rng, |record, _| record.name.push(0))
+        fault(BAD_METADATA, "NULs in a name", |plan, rng| {
+            change(plan, rng, |record, _| record.name.extend([0, 0]))
         }),
         fault(BAD_METADATA, "no NULs", |plan, rng| {
             let at = rng.below(plan.metadata_ends.len());
