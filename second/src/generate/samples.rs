@@ -1,5 +1,7 @@
 //! The real volumes and sets of the samples folder.
 
+use crate::console::packets_of_bytes;
+use crate::dsqdata::read_ends;
 use crate::residues::Alphabet;
 use std::fs;
 use std::path::Path;
@@ -98,6 +100,22 @@ fn set(folder: &Path, file: &str) -> Result<SampleSet, String> {
 }
 
 impl Samples {
+    /// Every run of the real sets with its alphabet number, the refused ones too.
+    pub fn runs(&self) -> Vec<(u64, Vec<u32>)> {
+        let mut runs = Vec::new();
+        for set in &self.sets {
+            let alphabet = set.index[8] as u64;
+            let packets = packets_of_bytes(&set.sequence[8..]);
+            let mut start = 0;
+            for ends in read_ends(&set.index) {
+                let next = ends.packets as usize + 1;
+                runs.push((alphabet, packets[start..next].to_vec()));
+                start = next;
+            }
+        }
+        runs
+    }
+
     /// Every real sequence once for each file that has it, as codes in its alphabet.
     pub fn sequences(&self) -> Vec<(Alphabet, Vec<u8>)> {
         let lines = |volume: &SampleVolume| -> Vec<(Alphabet, Vec<u8>)> {

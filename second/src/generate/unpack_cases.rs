@@ -238,9 +238,14 @@ fn byte_lengths(byte: u8, rng: &mut Rng) -> Vec<Case> {
     cases
 }
 
-/// Real sequences as packing makes them.
+/// Real sequences as packing makes them, and the runs of real sets.
 fn real(byte: u8, rng: &mut Rng, samples: &Samples) -> Vec<Case> {
     let mut cases = Vec::new();
+    for (number, run) in samples.runs() {
+        let packets = run.into_iter().map(Packet::of_number).collect();
+        let plan = Plan::new(number, Alphabet::Nucleic, packets, rng);
+        cases.push(Case::free(plan.call(byte, rng), "a run of a real set"));
+    }
     for (alphabet, codes) in samples.sequences() {
         let number = if alphabet == Alphabet::Amino { 3 } else { 2 };
         let packets = run_of(alphabet, &codes).into_iter().map(Packet::of_number).collect();
