@@ -1,0 +1,190 @@
+//! One call of the protocol in CASES.md: its byte, its arguments, and what each argument is.
+
+/// The kinds of arguments, as CASES.md names them.
+#[derive(Clone, Copy, Debug, PartialEq, Eq)]
+pub enum Kind {
+    Number,
+    Range,
+    Output,
+    PacketRange,
+    PacketOutput,
+}
+
+/// An argument: an output is its length and the byte (or packet) it is filled with.
+#[derive(Clone, Debug, PartialEq, Eq)]
+pub enum Argument {
+    Number(u64),
+    Range(Vec<u8>),
+    Output(usize, u8),
+    PacketRange(Vec<u32>),
+    PacketOutput(usize, u32),
+}
+
+/// A call byte with its arguments in order.
+#[derive(Clone, Debug, PartialEq, Eq)]
+pub struct Call {
+    pub byte: u8,
+    pub arguments: Vec<Argument>,
+}
+
+/// The longest range or output, in bytes, and the longest packet range or output, in packets.
+pub const MOST_RANGE: usize = 16_384;
+pub const MOST_RUN: usize = 4_096;
+
+pub const VOLUME_CHECK: u8 = 1;
+pub const DECODE: u8 = 2;
+pub const PACK: u8 = 3;
+pub const UNPACK: u8 = 4;
+pub const SET_CHECK: u8 = 5;
+pub const LOOKUP: u8 = 6;
+pub const IDENTIFIER: u8 = 7;
+pub const WALKER_STEP: u8 = 8;
+pub const LABEL: u8 = 9;
+pub const CONSOLE_VOLUME_CHECK: u8 = 10;
+pub const CONSOLE_PACK: u8 = 11;
+pub const CONSOLE_UNPACK: u8 = 12;
+
+/// The calls by byte: name, arguments in order, and the numbers that document 01 lets the call give.
+pub struct Signature {
+    pub byte: u8,
+    pub name: &'static str,
+    pub kinds: &'static [Kind],
+    pub numbers: &'static [u32],
+}
+
+use Kind::{Number, Output, PacketOutput, PacketRange, Range};
+
+pub const SIGNATURES: [Signature; 12] = [
+    Signature {
+        byte: VOLUME_CHECK,
+        name: "volume check",
+        kinds: &[Range, Range, Range],
+        numbers: &[0, 1, 2, 3, 4, 5, 6, 7, 8, 9, 22],
+    },
+    Signature {
+        byte: DECODE,
+        name: "decode",
+        kinds: &[Range, Range, Number, Output],
+        numbers: &[0, 1, 2, 3, 4, 5, 6, 7, 8, 10, 11, 12, 13, 22],
+    },
+    Signature {
+        byte: PACK,
+        name: "pack",
+        kinds: &[Number, Range, Number, PacketOutput],
+        numbers: &[0, 3, 13, 18, 22],
+    },
+    Signature {
+        byte: UNPACK,
+        name: "unpack",
+        kinds: &[Number, PacketRange, Output],
+        numbers: &[0, 3, 13, 17, 22],
+    },
+    Signature {
+        byte: SET_CHECK,
+        name: "set check",
+        kinds: &[Range, Range, Range],
+        numbers: &[0, 1, 3, 4, 6, 7, 9, 14, 15, 17, 19, 22],
+    },
+    Signature {
+        byte: LOOKUP,
+        name: "lookup",
+        kinds: &[
+            Number, Number, Number, Number, Number, Number, Number, Number, Number, Number, Range, Number,
+        ],
+        numbers: &[0, 1, 4, 6, 7, 10, 22],
+    },
+    Signature {
+        byte: IDENTIFIER,
+        name: "identifier",
+        kinds: &[Range, Number, Number, Number],
+        numbers: &[0, 1, 10, 20, 21, 22],
+    },
+    Signature {
+        byte: WALKER_STEP,
+        name: "walker step",
+        kinds: &[Range, Number, Number, Number],
+        numbers: &[0, 1, 10, 20, 21, 22],
+    },
+    Signature {
+        byte: LABEL,
+        name: "label",
+        kinds: &[Range, Range, Number],
+        numbers: &[0, 1, 2, 3, 4, 5, 6, 7, 10, 20, 21, 22],
+    },
+    Signature {
+        byte: CONSOLE_VOLUME_CHECK,
+        name: "console volume check",
+        kinds: &[Range, Range, Range, Output],
+        numbers: &[0, 1, 2, 3, 4, 5, 6, 7, 8, 9, 13, 22],
+    },
+    Signature {
+        byte: CONSOLE_PACK,
+        name: "console pack",
+        kinds: &[Number, Range, Output, Number, Output],
+        numbers: &[0, 3, 13, 18, 22],
+    },
+    Signature {
+        byte: CONSOLE_UNPACK,
+        name: "console unpack",
+        kinds: &[Number, Range, Output, Output],
+        numbers: &[0, 1, 3, 13, 17, 22],
+    },
+];
+
+/// The signature of a call byte.
+pub fn signature(byte: u8) -> Option<&'static Signature> {
+    SIGNATURES.iter().find(|signature| signature.byte == byte)
+}
+
+impl Call {
+    pub fn new(byte: u8, arguments: Vec<Argument>) -> Call {
+        Call { byte, arguments }
+    }
+
+    pub fn number(&self, k: usize) -> i128 {
+        match &self.arguments[k] {
+            Argument::Number(value) => *value as i128,
+            other => panic!("argument {k} is {other:?}, not a number"),
+        }
+    }
+
+    pub fn range(&self, k: usize) -> &[u8] {
+        match &self.arguments[k] {
+            Argument::Range(bytes) => bytes,
+            other => panic!("argument {k} is {other:?}, not a range"),
+        }
+    }
+
+    /// A lent output, filled as the argument says.
+    pub fn output(&self, k: usize) -> Vec<u8> {
+        match &self.arguments[k] {
+            Argument::Output(length, fill) => vec![*fill; *length],
+            other => panic!("argument {k} is {other:?}, not an output"),
+        }
+    }
+
+    pub fn packets(&self, k: usize) -> &[u32] {
+        match &self.arguments[k] {
+            Argument::PacketRange(packets) => packets,
+            other => panic!("argument {k} is {other:?}, not a packet range"),
+        }
+    }
+
+    pub fn packet_output(&self, k: usize) -> Vec<u32> {
+        match &self.arguments[k] {
+            Argument::PacketOutput(count, fill) => vec![*fill; *count],
+            other => panic!("argument {k} is {other:?}, not a packet output"),
+        }
+    }
+
+    /// Whether the protocol takes every argument.
+    pub fn fits_protocol(&self) -> bool {
+        self.arguments.iter().all(|argument| match argument {
+            Argument::Number(_) => true,
+            Argument::Range(bytes) => bytes.len() <= MOST_RANGE,
+            Argument::Output(length, _) => *length <= MOST_RANGE,
+            Argument::PacketRange(packets) => packets.len() <= MOST_RUN,
+            Argument::PacketOutput(count, _) => *count <= MOST_RUN,
+        })
+    }
+}

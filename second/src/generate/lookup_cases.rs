@@ -1,0 +1,237 @@
+//! Cases for the lookup in an opened set.
+
+use super::faults::{alone_and_in_pairs, by_chance, fault, Damaged, Fault};
+use super::rng::Rng;
+use super::samples::Samples;
+use super::Case;
+use crate::answers::*;
+use crate::call::*;
+use crate::fields::{little_bytes, little_unsigned};
+use crate::lookup::LAST_END;
+
+/// A record, an index and a number. `ends` are metadata and packet ends of each sequence.
+#[derive(Clone, Debug)]
+struct Plan {
+    record: Vec<u64>,
+    header: Vec<u8>,
+    ends: Vec<[i128; 2]>,
+    behind: Vec<u8>,
+    length: Option<usize>,
+    number: u64,
+}
+
+/// Where the record has its count.
+const COUNT: usize = 8;
+
+impl Plan {
+    /// A lookup that finds something. Of record and header only the count must be right.
+    fn by_chance(n: usize, rng: &mut Rng) -> Plan {
+        let mut record: Vec<u64> = (0..10).map(|_| rng.number()).collect();
+        record[COUNT] = n as u64;
+        let mut ends = Vec::new();
+        let mut before = [-1, -1];
+        for _ in 0..n {
+            before = before.map(|end| end + rng.between(1, 300) as i128);
+            ends.push(before);
+        }
+        Plan {
+            record,
+            header: rng.bytes(52),
+            ends,
+            behind: vec![],
+            length: None,
+            number: rng.below(n.max(1)) as u64,
+        }
+    }
+
+    fn call(&self) -> Call {
+        let mut index = self.header.clone();
+        index.extend(self.ends.iter().flatten().flat_map(|end| little_bytes(*end, 8)));
+        index.extend(&self.behind);
+        index.truncate(self.length.unwrap_or(index.len()));
+        let mut arguments: Vec<Argument> = self.record.iter().map(|field| Argument::Number(*field)).collect();
+        arguments.extend([Argument::Range(index), Argument::Number(self.number)]);
+        Call::new(LOOKUP, arguments)
+    }
+}
+
+/// A number of several sequences, not the first, so that there are ends before its own.
+fn to_damage(rng: &mut Rng) -> Plan {
+    let n = rng.between(2, 6);
+    let mut plan = Plan::by_chance(n, rng);
+    plan.number = rng.between(1, n - 1) as u64;
+    plan
+}
+
+/// The faults in the order of the refusals.
+fn faults() -> Vec<Fault<Plan>> {
+    let mut faults = vec![
+        fault(OUT_OF_RANGE, "count above the most", |plan: &mut Plan, rng| {
+            plan.record[COUNT] =
+                *rng.pick(&[134_217_729, 1 << 32, 1 << 60, (1 << 60) + 2, 1 << 63, u64::MAX]);
+        }),
+        fault(ENDS_TOO_EARLY, "an index too short", |plan, rng| {
+            let whole = 52 + 16 * plan.ends.len();
+            plan.length = Some(*rng.pick(&[whole - 17, 52, 51, 0]));
+        }),
+        fault(ENDS_TOO_EARLY, "one more stated", |plan, _| plan.record[COUNT] = plan.ends.len() as u64 + 1),
+        fault(ENDS_TOO_EARLY, "the most stated", |plan, _| plan.record[COUNT] = 134_217_728),
+        fault(LEFT_OVER, "an index too long", |plan, rng| {
+            let length = *rng.pick(&[1, 8, 15]);
+            plan.behind = rng.bytes(length);
+        }),
+        fault(LEFT_OVER, "one less stated", |plan, _| plan.record[COUNT] = plan.ends.len() as u64 - 1),
+        fault(NO_SUCH_NUMBER, "a number above the last", |plan, rng| {
+            let n = plan.ends.len() as u64;
+            plan.number = *rng.pick(&[n, n + 1, (1 << 32) + plan.number, (1 << 60) + plan.number, u64::MAX]);
+        }),
+    ];
+    faults.extend(end_faults());
+    faults
+}
+
+fn end_faults() -> Vec<Fault<Plan>> {
+    vec![
+        fault(BAD_OFFSETS, "an end that does not rise", |plan: &mut Plan, rng| {
+            let (at, column) = (plan.number as usize, rng.below(2));
+            plan.ends[at][column] = plan.ends[at - 1][column] - rng.below(2) as i128;
+        }),
+        fault(BAD_OFFSETS, "the end before below -1", |plan, rng| {
+            plan.ends[plan.number as usize - 1][rng.below(2)] = *rng.pick(&[-2, -3, -(1 << 63)]);
+        }),
+        fault(BAD_OFFSETS, "an end above the last", |plan, rng| {
+            plan.ends[plan.number as usize][rng.below(2)] =
+                *rng.pick(&[LAST_END + 1, 1 << 32, (1 << 32) + 700, (1 << 63) - 1]);
+        }),
+    ]
+}
+
+pub fn planned(rng: &mut Rng, samples: &Samples) -> Vec<Case> {
+    let mut cases = Vec::new();
+    for _ in 0..5 {
+        for Damaged { plan, number, note } in alone_and_in_pairs(&faults(), rng, to_damage) {
+            cases.push(Case::aimed(plan.call(), number, note));
+        }
+    }
+    cases.extend(limits(rng));
+    cases.extend(first_ones(rng));
+    cases.extend(elsewhere(rng));
+    cases.extend(sizes(rng));
+    cases.extend(real(samples));
+    cases
+}
+
+/// The ends before at -1 and -2, the own ones at the last and one above, in each column.
+fn limits(rng: &mut Rng) -> Vec<Case> {
+    let mut cases = Vec::new();
+    for column in 0..2 {
+        for (before, here) in [(-1, 0), (-1, LAST_END), (0, 1), (0, LAST_END), (LAST_END - 1, LAST_END)] {
+            let mut plan = to_damage(rng);
+            let at = plan.number as usize;
+            (plan.ends[at - 1][column], plan.ends[at][column]) = (before, here);
+            cases.push(Case::aimed(plan.call(), 0, format!("ends {before} and {here}")));
+        }
+        for (before, here) in [
+            (-2, 0),
+            (-1, -1),
+            (-2, -1),
+            (0, LAST_END + 1),
+            (LAST_END, LAST_END),
+            (LAST_END, LAST_END + 1),
+            (5, 4),
+            (5, 5),
+            (-(1 << 63), (1 << 63) - 1),
+        ] {
+            let mut plan = to_damage(rng);
+            let at = plan.number as usize;
+            (plan.ends[at - 1][column], plan.ends[at][column]) = (before, here);
+            cases.push(Case::aimed(plan.call(), BAD_OFFSETS, format!("ends {before} and {here}")));
+        }
+    }
+    cases
+}
+
+/// The first sequence, before which stands -1.
+fn first_ones(rng: &mut Rng) -> Vec<Case> {
+    let mut cases = Vec::new();
+    for (end, aim) in
+        [(-2, BAD_OFFSETS), (-1, BAD_OFFSETS), (0, 0), (LAST_END, 0), (LAST_END + 1, BAD_OFFSETS)]
+    {
+        for column in 0..2 {
+            let n = rng.between(1, 3);
+            let mut plan = Plan::by_chance(n, rng);
+            plan.number = 0;
+            plan.ends[0][column] = end;
+            cases.push(Case::aimed(plan.call(), aim, format!("a first end of {end}")));
+        }
+    }
+    cases
+}
+
+/// Ends of other sequences do not matter.
+fn elsewhere(rng: &mut Rng) -> Vec<Case> {
+    let mut cases = Vec::new();
+    for _ in 0..20 {
+        let mut plan = Plan::by_chance(6, rng);
+        for at in (0..6).filter(|at| *at as u64 != plan.number && *at as u64 + 1 != plan.number) {
+            plan.ends[at] = [-7, (1 << 63) - 1];
+        }
+        cases.push(Case::aimed(plan.call(), 0, "other ends wrong"));
+    }
+    cases
+}
+
+/// Every count and number of small sets, the longest index of the protocol, and each length around the right one.
+fn sizes(rng: &mut Rng) -> Vec<Case> {
+    let mut cases = Vec::new();
+    for (n, length) in (0..4).flat_map(|n| (0..52 + 16 * n + 20).map(move |length| (n, length))) {
+        let mut plan = Plan::by_chance(n, rng);
+        plan.behind = rng.bytes(20);
+        plan.length = Some(length);
+        cases.push(Case::free(plan.call(), format!("an index of {length} bytes for {n}")));
+    }
+    for n in [0, 1, 2, 3, 1020] {
+        let mut plan = Plan::by_chance(n, rng);
+        for number in [0, 1, 2, 1019, n as u64, n as u64 + 1, u64::MAX] {
+            plan.number = number;
+            let aim = if number < n as u64 { 0 } else { NO_SUCH_NUMBER };
+            cases.push(Case::aimed(plan.call(), aim, format!("number {number} of {n}")));
+        }
+    }
+    cases
+}
+
+/// Every sequence of the real sets, with the record as the index has it.
+fn real(samples: &Samples) -> Vec<Case> {
+    let mut cases = Vec::new();
+    for set in &samples.sets {
+        let fours = (0..7).map(|k| &set.index[4 * k..4 * k + 4]);
+        let eights = (0..3).map(|k| &set.index[28 + 8 * k..36 + 8 * k]);
+        let record: Vec<u64> = fours.chain(eights).map(|field| little_unsigned(field) as u64).collect();
+        for number in 0..=record[COUNT] {
+            let mut arguments: Vec<Argument> = record.iter().map(|field| Argument::Number(*field)).collect();
+            arguments.extend([Argument::Range(set.index.clone()), Argument::Number(number)]);
+            cases.push(Case::free(Call::new(LOOKUP, arguments), format!("{} number {number}", set.name)));
+        }
+    }
+    cases
+}
+
+pub fn random(rng: &mut Rng) -> Case {
+    match rng.below(10) {
+        0..=3 => {
+            let n = rng.between(1, 20);
+            Case::aimed(Plan::by_chance(n, rng).call(), 0, "valid")
+        }
+        4..=6 => {
+            let plan = to_damage(rng);
+            let Damaged { plan, number, note } = by_chance(&faults(), rng, plan);
+            Case::aimed(plan.call(), number, note)
+        }
+        _ => {
+            let n = rng.between(1, 3);
+            let call = Plan::by_chance(n, rng).call();
+            Case::free(super::spoiled(call, &[10], rng), "a byte changed")
+        }
+    }
+}

@@ -1,0 +1,120 @@
+//! The cases that the library is compared on: valid inputs, damage aimed at every refusal, both sides of each
+//! limit, two faults at once, real samples, and random changes. The same seed makes the same cases.
+
+pub mod decode_cases;
+pub mod dna;
+pub mod faults;
+pub mod index_faults;
+pub mod label_cases;
+pub mod lookup_cases;
+pub mod nodes;
+pub mod pack_cases;
+pub mod record_cases;
+pub mod record_faults;
+pub mod rng;
+pub mod runs;
+pub mod samples;
+pub mod set_cases;
+pub mod set_faults;
+pub mod sets;
+pub mod unpack_cases;
+pub mod volume_cases;
+pub mod volumes;
+
+use crate::call::*;
+use rng::Rng;
+use samples::Samples;
+
+/// A call to compare. `aim` is the number that the generator means to reach, where it knows it.
+#[derive(Clone, Debug)]
+pub struct Case {
+    pub call: Call,
+    pub aim: Option<u32>,
+    pub note: String,
+}
+
+impl Case {
+    pub fn aimed(call: Call, aim: u32, note: impl Into<String>) -> Case {
+        Case { call, aim: Some(aim), note: note.into() }
+    }
+
+    pub fn free(call: Call, note: impl Into<String>) -> Case {
+        Case { call, aim: None, note: note.into() }
+    }
+}
+
+/// The calls that have a generator: all of them.
+pub const GENERATED: [u8; 12] = [
+    VOLUME_CHECK,
+    DECODE,
+    PACK,
+    UNPACK,
+    SET_CHECK,
+    LOOKUP,
+    IDENTIFIER,
+    WALKER_STEP,
+    LABEL,
+    CONSOLE_VOLUME_CHECK,
+    CONSOLE_PACK,
+    CONSOLE_UNPACK,
+];
+
+/// The cases of a call: every planned one, then random ones until there are as many as asked.
+pub fn cases(byte: u8, seed: u64, count: usize, samples: &Samples) -> Vec<Case> {
+    let mut rng = Rng::new(seed.wrapping_mul(1_000_003).wrapping_add(byte as u64));
+    let mut cases = planned(byte, &mut rng, samples);
+    while cases.len() < count {
+        cases.push(random(byte, &mut rng));
+    }
+    cases
+}
+
+/// Cases that are made in every comparison, whatever the count.
+pub fn planned(byte: u8, rng: &mut Rng, samples: &Samples) -> Vec<Case> {
+    match byte {
+        VOLUME_CHECK | CONSOLE_VOLUME_CHECK => volume_cases::planned(byte, rng, samples),
+        DECODE => decode_cases::planned(rng, samples),
+        SET_CHECK => set_cases::planned(rng, samples),
+        LOOKUP => lookup_cases::planned(rng, samples),
+        IDENTIFIER | WALKER_STEP => record_cases::planned(byte, rng, samples),
+        LABEL => label_cases::planned(rng, samples),
+        PACK | CONSOLE_PACK => pack_cases::planned(byte, rng, samples),
+        UNPACK | CONSOLE_UNPACK => unpack_cases::planned(byte, rng, samples),
+        other => panic!("no generator for call {other}"),
+    }
+}
+
+/// One more case by chance.
+pub fn random(byte: u8, rng: &mut Rng) -> Case {
+    match byte {
+        VOLUME_CHECK | CONSOLE_VOLUME_CHECK => volume_cases::random(byte, rng),
+        DECODE => decode_cases::random(rng),
+        SET_CHECK => set_cases::random(rng),
+        LOOKUP => lookup_cases::random(rng),
+        IDENTIFIER | WALKER_STEP => record_cases::random(byte, rng),
+        LABEL => label_cases::random(rng),
+        PACK | CONSOLE_PACK => pack_cases::random(byte, rng),
+        UNPACK | CONSOLE_UNPACK => unpack_cases::random(byte, rng),
+        other => panic!("no generator for call {other}"),
+    }
+}
+
+/// The call with one to three bytes changed in one of these ranges, or one byte less or more.
+fn spoiled(mut call: Call, ranges: &[usize], rng: &mut Rng) -> Call {
+    let at = *rng.pick(ranges);
+    if let Argument::Range(bytes) = &mut call.arguments[at] {
+        match rng.below(8) {
+            0 => drop(bytes.pop()),
+            1 => bytes.push(rng.byte()),
+            _ if bytes.is_empty() => {}
+            _ => {
+                for _ in 0..rng.between(1, 3) {
+                    let place = rng.below(bytes.len());
+                    bytes[place] =
+                        if rng.chance(50) { rng.byte() } else { bytes[place] ^ (1 << rng.below(8)) };
+                }
+            }
+        }
+    }
+    call
+}

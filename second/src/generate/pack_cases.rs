@@ -1,0 +1,198 @@
+//! Cases for packing: on packets, and the console's.
+
+use super::faults::{alone_and_in_pairs, by_chance, fault, Damaged, Fault};
+use super::rng::Rng;
+use super::runs;
+use super::samples::Samples;
+use super::Case;
+use crate::answers::*;
+use crate::call::*;
+use crate::packets::run_of;
+use crate::residues::Alphabet;
+
+/// What a packing call gets. `spare` and `results` are lengths in bytes that only the console's call has.
+#[derive(Clone, Debug)]
+struct Plan {
+    alphabet: u64,
+    codes: Vec<u8>,
+    place: u64,
+    room: usize,
+    spare: usize,
+    results: usize,
+}
+
+impl Plan {
+    /// Codes packed at a place, into a buffer that has room behind the run as well.
+    fn new(number: u64, alphabet: Alphabet, codes: Vec<u8>, rng: &mut Rng) -> Plan {
+        let packets = run_of(alphabet, &codes).len();
+        let place = *rng.pick(&[0, 0, 1, 2, 7]);
+        let room = place + packets + *rng.pick(&[0, 0, 1, 5]);
+        let results = 16 + *rng.pick(&[0, 0, 1, 8]);
+        Plan { alphabet: number, codes, place: place as u64, room, spare: rng.below(4), results }
+    }
+
+    fn by_chance(rng: &mut Rng) -> Plan {
+        let (number, alphabet) = runs::alphabet(rng);
+        let length = runs::length(rng);
+        Plan::new(number, alphabet, runs::codes(alphabet, length, rng), rng)
+    }
+
+    fn call(self, byte: u8, rng: &mut Rng) -> Call {
+        let alphabet = Argument::Number(self.alphabet);
+        let codes = Argument::Range(self.codes);
+        let place = Argument::Number(self.place);
+        if byte == PACK {
+            let buffer = Argument::PacketOutput(self.room, rng.number() as u32);
+            return Call::new(byte, vec![alphabet, codes, place, buffer]);
+        }
+        let buffer = Argument::Output((4 * self.room + self.spare).min(MOST_RANGE), rng.byte());
+        let results = Argument::Output(self.results, rng.byte());
+        Call::new(byte, vec![alphabet, codes, buffer, place, results])
+    }
+}
+
+/// The faults of packing in the order of its refusals; the last is the console's alone.
+fn faults(byte: u8) -> Vec<Fault<Plan>> {
+    let mut faults = vec![
+        fault(WRONG_TYPE, "no such alphabet", |plan: &mut Plan, rng| {
+            plan.alphabet = runs::wrong_alphabet(rng)
+        }),
+        fault(BAD_CODE, "a code above the last", spoil_code),
+        fault(NO_ROOM, "one packet too few", |plan, _| plan.room = run_end(plan) - 1),
+        fault(NO_ROOM, "the place at the end", |plan, _| plan.place = plan.room as u64),
+        fault(NO_ROOM, "a huge place", |plan, rng| plan.place = huge_place(rng)),
+        fault(NO_ROOM, "no buffer", |plan, _| (plan.room, plan.place) = (0, 0)),
+    ];
+    if byte == CONSOLE_PACK {
+        faults.push(fault(NO_ROOM, "results too short", |plan, rng| plan.results = rng.below(16)));
+    }
+    faults
+}
+
+/// Where the run ends in the buffer, in packets. A huge place is cut: no buffer has it either way.
+fn run_end(plan: &Plan) -> usize {
+    let alphabet = if plan.alphabet == 3 { Alphabet::Amino } else { Alphabet::Nucleic };
+    plan.place.min(64) as usize + run_of(alphabet, &plan.codes).len()
+}
+
+/// A place that no buffer has, also such as wrap when they are multiplied by four or added to.
+fn huge_place(rng: &mut Rng) -> u64 {
+    let near = rng.below(3) as u64;
+    *rng.pick(&[4097, 1 << 30, 1 << 32, 1 << 61, 1 << 62, (1 << 62) + near, 1 << 63, u64::MAX - near])
+}
+
+fn spoil_code(plan: &mut Plan, rng: &mut Rng) {
+    let first_bad = if plan.alphabet == 3 { 28 } else { 16 };
+    if plan.codes.is_empty() {
+        plan.codes.push(0);
+    }
+    let at = *rng.pick(&[0, plan.codes.len() - 1, rng.clone().below(plan.codes.len())]);
+    plan.codes[at] = *rng.pick(&[first_bad, first_bad, 30, 31, 32, 128, 255]);
+}
+
+pub fn planned(byte: u8, rng: &mut Rng, samples: &Samples) -> Vec<Case> {
+    let mut cases = Vec::new();
+    for _ in 0..4 {
+        for Damaged { plan, number, note } in alone_and_in_pairs(&faults(byte), rng, Plan::by_chance) {
+            cases.push(Case::aimed(plan.call(byte, rng), number, note));
+        }
+    }
+    cases.extend(every_code(byte, rng));
+    cases.extend(lengths(byte, rng));
+    cases.extend(places(byte, rng));
+    cases.extend(real(byte, rng, samples));
+    if byte == CONSOLE_PACK {
+        cases.extend(result_sizes(byte, rng));
+    }
+    cases
+}
+
+/// Every code around the last valid one, in each alphabet.
+fn every_code(byte: u8, rng: &mut Rng) -> Vec<Case> {
+    let mut cases = Vec::new();
+    for number in 1..=3 {
+        let alphabet = if number == 3 { Alphabet::Amino } else { Alphabet::Nucleic };
+        for code in (0..=40).chain([127, 128, 255]) {
+            let plan = Plan::new(number, alphabet, vec![code], rng);
+            let aim = if alphabet.is_code(code) { 0 } else { BAD_CODE };
+            cases.push(Case::aimed(plan.call(byte, rng), aim, format!("code {code}")));
+        }
+    }
+    cases
+}
+
+/// Lengths around whole packets, and one degenerate base at each place of two packets' worth.
+fn lengths(byte: u8, rng: &mut Rng) -> Vec<Case> {
+    let mut lists: Vec<(u64, Alphabet, Vec<u8>)> = Vec::new();
+    for length in 0..=47 {
+        lists.push((2, Alphabet::Nucleic, vec![rng.below(4) as u8; length]));
+    }
+    for length in 0..=14 {
+        lists.push((3, Alphabet::Amino, (0..length).map(|_| rng.below(28) as u8).collect()));
+    }
+    for at in 0..=32 {
+        let mut codes = vec![3; 33];
+        codes[at] = 4;
+        lists.push((1, Alphabet::Nucleic, codes));
+    }
+    lists.push((2, Alphabet::Nucleic, (0..MOST_RANGE).map(|_| rng.below(4) as u8).collect()));
+    lists.push((3, Alphabet::Amino, (0..MOST_RANGE).map(|_| rng.below(28) as u8).collect()));
+    let mut cases = Vec::new();
+    for (number, alphabet, codes) in lists {
+        let note = format!("{} codes", codes.len());
+        cases.push(Case::aimed(Plan::new(number, alphabet, codes, rng).call(byte, rng), 0, note));
+    }
+    cases
+}
+
+/// The last place that fits, the first that does not, and huge ones.
+fn places(byte: u8, rng: &mut Rng) -> Vec<Case> {
+    let mut cases = Vec::new();
+    for _ in 0..12 {
+        let mut plan = Plan::by_chance(rng);
+        plan.place = 0;
+        let packets = run_end(&plan);
+        plan.room = packets + rng.below(6);
+        plan.place = (plan.room - packets) as u64;
+        cases.push(Case::aimed(plan.clone().call(byte, rng), 0, "the last place that fits"));
+        plan.place += 1;
+        cases.push(Case::aimed(plan.clone().call(byte, rng), NO_ROOM, "the first place that does not fit"));
+        plan.place = huge_place(rng);
+        cases.push(Case::aimed(plan.call(byte, rng), NO_ROOM, "a huge place"));
+    }
+    cases
+}
+
+fn result_sizes(byte: u8, rng: &mut Rng) -> Vec<Case> {
+    let mut cases = Vec::new();
+    for results in 0..=24 {
+        let mut plan = Plan::by_chance(rng);
+        plan.results = results;
+        let aim = if results < 16 { NO_ROOM } else { 0 };
+        cases.push(Case::aimed(plan.call(byte, rng), aim, format!("results of {results} bytes")));
+    }
+    cases
+}
+
+/// Real sequences.
+fn real(byte: u8, rng: &mut Rng, samples: &Samples) -> Vec<Case> {
+    let mut cases = Vec::new();
+    for (alphabet, codes) in samples.sequences() {
+        let number = if alphabet == Alphabet::Amino { 3 } else { rng.between(1, 2) as u64 };
+        cases.push(Case::aimed(
+            Plan::new(number, alphabet, codes, rng).call(byte, rng),
+            0,
+            "a real sequence",
+        ));
+    }
+    cases
+}
+
+pub fn random(byte: u8, rng: &mut Rng) -> Case {
+    let plan = Plan::by_chance(rng);
+    if rng.chance(50) {
+        return Case::aimed(plan.call(byte, rng), 0, "valid");
+    }
+    let Damaged { plan, number, note } = by_chance(&faults(byte), rng, plan);
+    Case::aimed(plan.call(byte, rng), number, note)
+}

@@ -1,0 +1,282 @@
+//! Cases for the walker's step and the identifier call.
+
+use super::faults::{alone_and_in_pairs, by_chance, fault, Damaged, Fault};
+use super::nodes::{self, Node};
+use super::record_faults::*;
+use super::rng::Rng;
+use super::samples::Samples;
+use super::Case;
+use crate::answers::*;
+use crate::call::*;
+use crate::index::read_index;
+
+/// A header file with one record in it, and the number of a title or identifier. `moved` is a start and end that
+/// are not the record's.
+#[derive(Clone, Debug)]
+struct Plan {
+    before: Vec<u8>,
+    lines: Vec<Vec<Node>>,
+    after: Vec<u8>,
+    moved: Option<(u64, u64)>,
+    number: u64,
+}
+
+impl Plan {
+    fn new(lines: Vec<Vec<Node>>, rng: &mut Rng) -> Plan {
+        let around = [*rng.pick(&[0, 0, 1, 7]), *rng.pick(&[0, 0, 1, 7])];
+        Plan { before: rng.bytes(around[0]), lines, after: rng.bytes(around[1]), moved: None, number: 0 }
+    }
+
+    /// A record that has what the call asks for.
+    fn by_chance(byte: u8, rng: &mut Rng) -> Plan {
+        loop {
+            let count = rng.between(1, 4);
+            let mut plan = Plan::new((0..count).map(|_| nodes::fields(rng)).collect(), rng);
+            let found = plan.count(byte);
+            if found > 0 {
+                plan.number = rng.below(found) as u64;
+                return plan;
+            }
+        }
+    }
+
+    /// How many titles or identifiers there are.
+    fn count(&self, byte: u8) -> usize {
+        nodes::count_of(&self.lines, byte == WALKER_STEP)
+    }
+
+    fn call(&self, byte: u8) -> Call {
+        call_on(&self.before, &nodes::record(&self.lines), &self.after, self.moved, self.number, byte)
+    }
+
+    fn file_length(&self) -> u64 {
+        (self.before.len() + nodes::record(&self.lines).len() + self.after.len()) as u64
+    }
+}
+
+fn call_on(
+    before: &[u8],
+    record: &[u8],
+    after: &[u8],
+    moved: Option<(u64, u64)>,
+    number: u64,
+    byte: u8,
+) -> Call {
+    let file = [before, record, after].concat();
+    let own = (before.len() as u64, (before.len() + record.len()) as u64);
+    let (start, end) = moved.unwrap_or(own);
+    let numbers = [start, end, number].map(Argument::Number);
+    Call::new(byte, [vec![Argument::Range(file)], numbers.to_vec()].concat())
+}
+
+/// Three def-lines, so that faults can stand to the left and to the right of another.
+fn to_damage(byte: u8, rng: &mut Rng) -> Plan {
+    let mut plan = Plan::by_chance(byte, rng);
+    while plan.lines.len() < 3 {
+        plan.lines.push(nodes::fields(rng));
+    }
+    plan
+}
+
+/// In the order of the refusals: the place; the nesting left to right, 20 or 21; the shape; the number.
+fn faults() -> Vec<Fault<Plan>> {
+    let mut faults = place_faults();
+    faults.extend([
+        fault(BAD_RECORD, "malformed on the left", |plan: &mut Plan, rng| plan.lines[0] = malformed(rng)),
+        fault(BAD_RECORD, "wrong at depth 17 on the left", |plan, rng| {
+            plan.lines[0] = vec![in_identifier(wrong_at_the_bottom(7, rng))];
+        }),
+        fault(TOO_DEEP, "too deep", |plan, rng| plan.lines[1].push(too_deep(3, rng))),
+        fault(TOO_DEEP, "too deep in an identifier", |plan, rng| {
+            plan.lines[1] = vec![in_identifier(too_deep(7, rng))];
+        }),
+        fault(BAD_RECORD, "malformed on the right", |plan, rng| plan.lines[2] = malformed(rng)),
+        fault(BAD_RECORD, "a wrong shape on the left", |plan, rng| plan.lines[0] = wrong_shape(rng)),
+        fault(BAD_RECORD, "a wrong shape on the right", |plan, rng| plan.lines[2] = wrong_shape(rng)),
+        fault(NO_SUCH_NUMBER, "a number far above", |plan, rng| {
+            plan.number += *rng.pick(&[100, 1 << 32, 1 << 63, u64::MAX - 3000]);
+        }),
+    ]);
+    faults
+}
+
+fn place_faults() -> Vec<Fault<Plan>> {
+    vec![
+        fault(ENDS_TOO_EARLY, "an end past the file", |plan: &mut Plan, rng| {
+            let length = plan.file_length();
+            let end = *rng.pick(&[length + 1, (1 << 32) + length, 1 << 63, u64::MAX]);
+            plan.moved = Some((plan.before.len() as u64, end));
+        }),
+        fault(ENDS_TOO_EARLY, "a start above the end", |plan, rng| {
+            let start = rng.below(plan.file_length() as usize) as u64 + 1;
+            plan.moved = Some((start, start - 1));
+        }),
+        fault(ENDS_TOO_EARLY, "both past the file", |plan, rng| {
+            let place = *rng.pick(&[plan.file_length() + 1, 1 << 32, u64::MAX]);
+            plan.moved = Some((place, place));
+        }),
+        fault(ENDS_TOO_EARLY, "a huge start", |plan, rng| {
+            plan.moved = Some((*rng.pick(&[1 << 32, 1 << 63, u64::MAX]), plan.before.len() as u64));
+        }),
+    ]
+}
+
+pub fn planned(byte: u8, rng: &mut Rng, samples: &Samples) -> Vec<Case> {
+    let mut cases = Vec::new();
+    for _ in 0..8 {
+        for Damaged { plan, number, note } in alone_and_in_pairs(&faults(), rng, |rng| to_damage(byte, rng)) {
+            cases.push(Case::aimed(plan.call(byte), number, note));
+        }
+    }
+    cases.extend(numbers(byte, rng));
+    cases.extend(depths(byte, rng));
+    cases.extend(whole_records(byte, rng));
+    cases.extend(every_fault(byte, rng));
+    cases.extend(cuts(byte, rng));
+    cases.extend(real(byte, samples));
+    cases
+}
+
+/// Every number of a record, and the first above.
+fn numbers(byte: u8, rng: &mut Rng) -> Vec<Case> {
+    let mut cases = Vec::new();
+    for _ in 0..15 {
+        let mut plan = Plan::by_chance(byte, rng);
+        let count = plan.count(byte) as u64;
+        for number in 0..count + 2 {
+            plan.number = number;
+            let aim = if number < count { 0 } else { NO_SUCH_NUMBER };
+            cases.push(Case::aimed(plan.call(byte), aim, format!("number {number} of {count}")));
+        }
+    }
+    cases
+}
+
+/// An identifier's body down to depth 16, and to 17, with each kind of element at the bottom.
+fn depths(byte: u8, rng: &mut Rng) -> Vec<Case> {
+    let mut cases = Vec::new();
+    let bottoms =
+        [Node::Integer(vec![5]), Node::Text(0, vec![65]), Node::List(vec![]), Node::Raw(vec![0xA9, 0x80])];
+    for (depth, bottom) in (14..=18).flat_map(|depth| bottoms.clone().map(|bottom| (depth, bottom))) {
+        // The body of an identifier stands at depth 6.
+        let is_choice = matches!(bottom, Node::Raw(_));
+        let body = nodes::nested(depth - 6, bottom, rng);
+        let fields = vec![
+            nodes::choice(0xA0, nodes::text(rng)),
+            nodes::choice(0xA1, Node::List(vec![nodes::choice(0xA4, body)])),
+        ];
+        let aim = match depth {
+            17.. => TOO_DEEP,
+            _ if is_choice => BAD_RECORD,
+            _ => 0,
+        };
+        let plan = Plan::new(vec![fields], rng);
+        cases.push(Case::aimed(plan.call(byte), aim, format!("an element at depth {depth}")));
+    }
+    for (outermost, aim) in [(16, BAD_RECORD), (17, TOO_DEEP)] {
+        let record = nodes::lists(outermost - 1, Node::Integer(vec![1])).bytes();
+        cases.push(Case::aimed(
+            call_on(&[], &record, &[], None, 0, byte),
+            aim,
+            format!("{outermost} levels"),
+        ));
+    }
+    cases
+}
+
+/// Records by themselves: none, empty ones, wrong outermost shapes, bytes behind.
+fn whole_records(byte: u8, rng: &mut Rng) -> Vec<Case> {
+    let mut cases = Vec::new();
+    let mut bad = wrong_records(rng);
+    bad.extend([vec![], vec![0], vec![0, 0], vec![0x30], vec![0x30, 0x80], vec![0x30, 0x80, 0]]);
+    let valid = nodes::record(&Plan::by_chance(byte, rng).lines);
+    for behind in [vec![0], vec![0, 0], vec![0x02, 0x01, 0x05], valid.clone()] {
+        bad.push([valid.clone(), behind].concat());
+    }
+    for record in bad {
+        cases.push(Case::aimed(call_on(&[9], &record, &[9], None, 0, byte), BAD_RECORD, "a whole record"));
+    }
+    for record in [vec![0x30, 0x80, 0, 0], vec![0x30, 0x80, 0x30, 0x80, 0, 0, 0, 0]] {
+        cases.push(Case::aimed(call_on(&[], &record, &[9], None, 0, byte), NO_SUCH_NUMBER, "nothing in it"));
+    }
+    cases
+}
+
+/// Every kind of malformed element and of wrong shape by itself, in a record that is good otherwise.
+fn every_fault(byte: u8, rng: &mut Rng) -> Vec<Case> {
+    let mut lines: Vec<Vec<Node>> =
+        malformed_elements(rng).into_iter().map(|raw| vec![in_identifier(Node::Raw(raw))]).collect();
+    lines.extend(wrong_shapes(rng));
+    let mut cases = Vec::new();
+    for line in lines {
+        let mut plan = Plan::by_chance(byte, rng);
+        let note = format!("{line:02x?}");
+        plan.lines.push(line);
+        cases.push(Case::aimed(plan.call(byte), BAD_RECORD, note));
+    }
+    cases
+}
+
+/// A record cut at every byte, and begun at every byte.
+fn cuts(byte: u8, rng: &mut Rng) -> Vec<Case> {
+    let mut cases = Vec::new();
+    let fields = vec![
+        nodes::choice(0xA0, Node::Text(1, vec![65; 3])),
+        nodes::choice(0xA1, Node::List(vec![nodes::identifier(rng)])),
+        nodes::choice(0xA2, Node::Integer(vec![1, 2])),
+    ];
+    let record = nodes::record(&[fields]);
+    for place in 0..record.len().min(150) {
+        let cut = call_on(&[], &record, &[], Some((0, place as u64)), 0, byte);
+        cases.push(Case::aimed(cut, BAD_RECORD, format!("cut at {place}")));
+        let begun = call_on(&[], &record, &[], Some((place as u64, record.len() as u64)), 0, byte);
+        cases.push(Case::free(begun, format!("begun at {place}")));
+    }
+    cases
+}
+
+/// The records of real volumes.
+fn real(byte: u8, samples: &Samples) -> Vec<Case> {
+    let mut cases = Vec::new();
+    for number in 0..5 {
+        cases.push(Case::free(call_on(&[], &samples.record, &[], None, number, byte), "every field"));
+    }
+    for volume in &samples.volumes {
+        let Ok(index) = read_index(&volume.index) else { continue };
+        for (k, two) in index.header_offsets.windows(2).enumerate().take(30) {
+            let (start, end) = (two[0] as u64, two[1] as u64);
+            for number in 0..2 {
+                let call = call_on(&[], &volume.header, &[], Some((start, end)), number, byte);
+                cases.push(Case::free(call, format!("{} record {k}, number {number}", volume.name)));
+            }
+        }
+    }
+    cases
+}
+
+pub fn random(byte: u8, rng: &mut Rng) -> Case {
+    match rng.below(10) {
+        0..=3 => Case::aimed(Plan::by_chance(byte, rng).call(byte), 0, "valid"),
+        4..=5 => {
+            let plan = to_damage(byte, rng);
+            let Damaged { plan, number, note } = by_chance(&faults(), rng, plan);
+            Case::aimed(plan.call(byte), number, note)
+        }
+        6..=7 => {
+            let plan = Plan::by_chance(byte, rng);
+            Case::free(super::spoiled(plan.call(byte), &[0], rng), "a byte changed")
+        }
+        _ => {
+            let mut plan = Plan::by_chance(byte, rng);
+            plan.before.clear();
+            let mut record = nodes::record(&plan.lines);
+            let place = rng.below(record.len());
+            record[place] =
+                *rng.pick(&[0x00, 0x01, 0x02, 0x1A, 0x30, 0x80, 0x81, 0x84, 0xA0, 0xA1, 0xAB, 0xB3, 0xB4]);
+            Case::free(
+                call_on(&[], &record, &plan.after, None, plan.number, byte),
+                "a byte of structure changed",
+            )
+        }
+    }
+}

@@ -1,0 +1,171 @@
+//! A set as a plan: every field by itself, so that each can be made wrong alone, and the three files made from it.
+
+use super::rng::Rng;
+use super::runs;
+use crate::dsqdata::MAGIC;
+use crate::fields::little_bytes;
+use crate::packets::{residues_of, run_of};
+use crate::residues::Alphabet;
+
+/// A set. `longest` is of names, accessions, descriptions and sequences. `index_length` cuts the index.
+#[derive(Clone, Debug)]
+pub struct Plan {
+    pub magics: [i128; 3],
+    pub tags: [i128; 3],
+    pub alphabet: i128,
+    pub flags: i128,
+    pub longest: [i128; 4],
+    pub count: i128,
+    pub residues: i128,
+    pub metadata_ends: Vec<i128>,
+    pub packet_ends: Vec<i128>,
+    pub behind: Vec<u8>,
+    pub index_length: Option<usize>,
+    pub metadata_length: Option<usize>,
+    pub sequence_length: Option<usize>,
+    pub records: Vec<Record>,
+    pub metadata: Vec<u8>,
+    pub packets: Vec<u32>,
+    pub odd: Vec<u8>,
+}
+
+/// A metadata record in its parts; `closing` stands behind the description's NUL.
+#[derive(Clone, Debug)]
+pub struct Record {
+    pub name: Vec<u8>,
+    pub accession: Vec<u8>,
+    pub description: Vec<u8>,
+    pub closing: Vec<u8>,
+}
+
+impl Record {
+    pub fn by_chance(rng: &mut Rng) -> Record {
+        let lengths = [rng.between(1, 9), rng.below(5), rng.below(20)];
+        let taxonomy_id = *rng.pick(&[-1, -1, 1, 9606, 2_147_483_647, 256, 1 << 24]);
+        Record {
+            name: word(lengths[0], rng),
+            accession: if rng.chance(50) { vec![] } else { word(lengths[1], rng) },
+            description: line(lengths[2], rng),
+            closing: little_bytes(taxonomy_id, 4),
+        }
+    }
+
+    fn bytes(&self) -> Vec<u8> {
+        [&self.name[..], &[0], &self.accession, &[0], &self.description, &[0], &self.closing].concat()
+    }
+}
+
+/// A text without NUL, white space and the like.
+fn word(length: usize, rng: &mut Rng) -> Vec<u8> {
+    (0..length).map(|_| *rng.pick(b"abcXYZ019_|.\x01\x08\x0e\x1f\x21\x7f\x80\xff")).collect()
+}
+
+/// A text without NUL and line feed.
+fn line(length: usize, rng: &mut Rng) -> Vec<u8> {
+    (0..length).map(|_| *rng.pick(b"abc XYZ\t\r\x0b\x0c,.\x01\x80\xff")).collect()
+}
+
+/// A run as packing makes it, or another well-formed one.
+fn run(alphabet: Alphabet, rng: &mut Rng) -> Vec<u32> {
+    if rng.chance(50) {
+        let length = rng.below(50);
+        return run_of(alphabet, &runs::codes(alphabet, length, rng));
+    }
+    let count = rng.between(1, 5);
+    runs::numbers(&runs::run(alphabet, count, rng))
+}
+
+impl Plan {
+    /// A valid set of n sequences.
+    pub fn by_chance(n: usize, rng: &mut Rng) -> Plan {
+        let (number, alphabet) = runs::alphabet(rng);
+        let all: Vec<Vec<u32>> = (0..n).map(|_| run(alphabet, rng)).collect();
+        let records: Vec<Record> = (0..n).map(|_| Record::by_chance(rng)).collect();
+        Plan::new(number as i128, &all, records, rng)
+    }
+
+    /// A valid set of these runs and records.
+    pub fn new(alphabet: i128, runs: &[Vec<u32>], records: Vec<Record>, rng: &mut Rng) -> Plan {
+        let tag = *rng.pick(&[0, 1, 0xFFFF_FFFF, rng.clone().number() as u32 as i128]);
+        let lengths: Vec<i128> = runs.iter().map(|run| residues_of(run).len() as i128).collect();
+        let mut plan = Plan {
+            magics: [MAGIC; 3],
+            tags: [tag; 3],
+            alphabet,
+            flags: 0,
+            longest: [0, 0, 0, lengths.iter().copied().max().unwrap_or(0)],
+            count: runs.len() as i128,
+            residues: lengths.iter().sum(),
+            metadata_ends: vec![],
+            packet_ends: vec![],
+            behind: vec![],
+            index_length: None,
+            metadata_length: None,
+            sequence_length: None,
+            records,
+            metadata: vec![],
+            packets: vec![],
+            odd: vec![],
+        };
+        for run in runs {
+            plan.packets.extend(run);
+            plan.packet_ends.push(plan.packets.len() as i128 - 1);
+        }
+        plan.lay_out_metadata();
+        plan.state_longest_texts();
+        plan
+    }
+
+    /// The metadata body and its ends, from the records.
+    pub fn lay_out_metadata(&mut self) {
+        (self.metadata, self.metadata_ends) = (vec![], vec![]);
+        for record in &self.records {
+            self.metadata.extend(record.bytes());
+            self.metadata_ends.push(self.metadata.len() as i128 - 1);
+        }
+    }
+
+    pub fn state_longest_texts(&mut self) {
+        for record in &self.records {
+            let lengths = [record.name.len(), record.accession.len(), record.description.len()];
+            for (k, length) in lengths.iter().enumerate() {
+                self.longest[k] = self.longest[k].max(*length as i128);
+            }
+        }
+    }
+
+    pub fn index(&self) -> Vec<u8> {
+        let fours = [self.magics[0], self.tags[0], self.alphabet, self.flags];
+        let fours = fours.iter().chain(&self.longest[..3]);
+        let mut bytes: Vec<u8> = fours.flat_map(|field| little_bytes(*field, 4)).collect();
+        for field in [self.longest[3], self.count, self.residues] {
+            bytes.extend(little_bytes(field, 8));
+        }
+        for (metadata, packets) in self.metadata_ends.iter().zip(&self.packet_ends) {
+            bytes.extend(little_bytes(*metadata, 8));
+            bytes.extend(little_bytes(*packets, 8));
+        }
+        bytes.extend(&self.behind);
+        cut(bytes, self.index_length)
+    }
+
+    pub fn metadata_file(&self) -> Vec<u8> {
+        cut([header(self.magics[1], self.tags[1]), self.metadata.clone()].concat(), self.metadata_length)
+    }
+
+    pub fn sequence_file(&self) -> Vec<u8> {
+        let body: Vec<u8> = self.packets.iter().flat_map(|packet| packet.to_le_bytes()).collect();
+        let bytes = [header(self.magics[2], self.tags[2]), body, self.odd.clone()].concat();
+        cut(bytes, self.sequence_length)
+    }
+}
+
+fn header(magic: i128, tag: i128) -> Vec<u8> {
+    [little_bytes(magic, 4), little_bytes(tag, 4)].concat()
+}
+
+/// The first bytes, where a length is given.
+fn cut(mut bytes: Vec<u8>, length: Option<usize>) -> Vec<u8> {
+    bytes.truncate(length.unwrap_or(bytes.len()));
+    bytes
+}

@@ -1,0 +1,26 @@
+//! An independent second reading of document 01: every call of the library, written from the documents alone,
+//! the cases it is compared on, and the protocol they travel in.
+
+pub mod answers;
+pub mod call;
+pub mod comparison;
+pub mod console;
+pub mod dsqdata;
+pub mod elements;
+pub mod fields;
+pub mod generate;
+pub mod headers;
+pub mod index;
+pub mod line;
+pub mod listing;
+pub mod lookup;
+pub mod metadata;
+pub mod options;
+pub mod packets;
+pub mod records;
+pub mod residues;
+pub mod runs;
+pub mod sequence;
+pub mod serve;
+pub mod stream;
+pub mod volume;
