@@ -1,1 +1,3 @@
 pub mod Checks
+pub mod Numbers
+pub mod Alone

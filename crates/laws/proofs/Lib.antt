@@ -3,3 +3,14 @@ pub mod Places
 pub mod Rules
 pub mod Writing
 pub mod Digits
+pub mod Verdicts
+pub mod Numbers
+pub mod Parts
+pub mod Choices
+pub mod Counted
+pub mod Signed
+pub mod Told
+pub mod Passing
+pub mod Sizes
+pub mod Storing
+pub mod Largest

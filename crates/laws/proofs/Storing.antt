@@ -1,0 +1,43 @@
+-- A loop that stores what f gives at one place after another, and lists written into the front of a list. Assumes nothing.
+use mathlib.Core.Path.{_≡_, sym, ap, _∙_}
+use mathlib.Core.List.{List, [], _∷_, _++_, append-assoc}
+use Prim.Native.Nat.{ℕ, _+_, _-_, _≤_, _<_}
+use native.Mathlib.Nat.{add-assoc, zero-add}
+use native.Mathlib.Numerals.{add-one}
+use native.Mathlib.Omega.{arith}
+use lib.ListN.{length, take, drop, getD, set, length-append, length-take}
+use lib.Seq.{set-at, take-append-le, drop-append-le, paste-zero}
+use Rattle.laws.specs.Places.{listTo}
+use Rattle.laws.specs.Writing.{writtenAt}
+use Rattle.laws.proofs.Places.{length-listTo}
+use Rattle.laws.proofs.Writing.{drop-step, paste-whole}
+
+-- nothing stored yet
+pub store-none : (f : ℕ → ℕ) (p : ℕ) (d : List ℕ) → d ≡ writtenAt p (listTo f 0) d
+store-none f p d = paste-zero d p [] ∙ paste-whole p [] d
+
+-- the next one stored
+pub store-next : (f : ℕ → ℕ) (p n x : ℕ) (d : List ℕ) → p + n < length d → x ≡ f n
+    → set (writtenAt p (listTo f n) d) (p + n) x ≡ writtenAt p (listTo f (n + 1)) d
+store-next f p n x d h e =
+    let xs = listTo f n in
+    let l : length xs ≡ n = length-listTo f n in
+    let k : length (take p d ++ xs) ≡ p + n = simp (length-append, length-take) (omega arith) in
+    let m : length (listTo f (n + 1)) ≡ n + 1 = length-listTo f (n + 1) in
+    let g : listTo f (n + 1) ≡ xs ++ (f n ∷ []) = rw (add-one n) in
+    let r : drop (p + (n + 1)) d ≡ drop (p + n + 1) d = ap (λ (i : ℕ). drop i d) (sym (add-assoc p n 1)) in
+    let a : writtenAt p xs d ≡ (take p d ++ xs) ++ (getD d (p + n) 0 ∷ drop (p + n + 1) d) =
+    ap (λ (i : ℕ). (take p d ++ xs) ++ drop (p + i) d) l ∙ ap (λ (t : List ℕ). (take p d ++ xs) ++ t) (drop-step d (p + n) 0 h) in
+    let b : writtenAt p (listTo f (n + 1)) d ≡ (take p d ++ xs) ++ (f n ∷ drop (p + n + 1) d) =
+    ap (λ (i : ℕ). (take p d ++ listTo f (n + 1)) ++ drop (p + i) d) m ∙ rw (g, r) (simp append-assoc) in
+    ap (λ (t : List ℕ). set t (p + n) x) a ∙ (set-at (take p d ++ xs) (getD d (p + n) 0) (drop (p + n + 1) d) x (p + n) k ∙ (rw e (sym b)))
+
+-- what is written within a list leaves what follows it
+pub written-append : (p : ℕ) (new a b : List ℕ) → p + length new ≤ length a → writtenAt p new (a ++ b) ≡ writtenAt p new a ++ b
+written-append p new a b h =
+    let k : p ≤ length a = omega arith in
+    rw (take-append-le p a b k, drop-append-le (p + length new) a b h) (sym (append-assoc (take p a ++ new) (drop (p + length new) a) b))
+
+-- a list written at the start
+pub written-start : (new old : List ℕ) → writtenAt 0 new old ≡ new ++ drop (length new) old
+written-start new old = rw zero-add
