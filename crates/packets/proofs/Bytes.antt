@@ -1,0 +1,83 @@
+-- Packets as little-endian bytes. Assumes nothing.
+use mathlib.Core.Path.{_≡_, refl, sym, ap, _∙_}
+use mathlib.Core.Bool.{true}
+use mathlib.Core.List.{List, [], _∷_, _++_}
+use Prim.Native.Nat.{ℕ, zero, suc, _+_, _*_, _/_, _-_, _^_, _<_}
+use native.Mathlib.Nat.{add-zero}
+use native.Mathlib.Omega.{arith}
+use lib.ListN.{length, getD}
+use lib.Seq.{ext-getD}
+use Rattle.laws.specs.Digits.{allBelow}
+use Rattle.laws.proofs.Places.{length-listTo, listTo-at}
+use Rattle.laws.proofs.Digits.{below-parts, below-at, below-all}
+use Rattle.fields.specs.Number.{little, number, unsignedAt}
+use Rattle.fields.specs.Written.{littleBytes}
+use Rattle.fields.proofs.Laws.{unsigned-bytes, four-bytes}
+use Rattle.packets.specs.Bytes.{packetsOf, bytesOf}
+
+-- ---- the packets that bytes stand for
+
+pub length-packets : (bytes : List ℕ) → length (packetsOf bytes) ≡ length bytes / 4
+unfolding packetsOf
+length-packets bytes = length-listTo (λ k. unsignedAt little 4 bytes (4 * k)) (length bytes / 4)
+
+pub packets-at : (bytes : List ℕ) (k : ℕ) → k < length bytes / 4 → getD (packetsOf bytes) k 0 ≡ unsignedAt little 4 bytes (4 * k)
+unfolding packetsOf
+packets-at bytes k h = listTo-at (λ i. unsignedAt little 4 bytes (4 * i)) (length bytes / 4) k 0 h
+
+-- four bytes, one by one
+four-at : (file : List ℕ) (at : ℕ)
+    → unsignedAt little 4 file at ≡ getD file at 0 + 256 * (getD file (at + 1) 0 + 256 * (getD file (at + 2) 0 + 256 * (getD file (at + 3) 0 + 256 * 0)))
+four-at file at = unsigned-bytes little 4 file at ∙ (ap (number little) (four-bytes file at 0) ∙ rw add-zero)
+
+-- a packet is below 2^32
+pub packets-below : (bytes : List ℕ) → allBelow 256 bytes ≡ true → allBelow (2 ^ 32) (packetsOf bytes) ≡ true
+packets-below bytes e =
+    below-all (2 ^ 32) (packetsOf bytes)
+    (λ k h.
+    let l : k < length bytes / 4 = rw (length-packets bytes) at h in
+    let b : (i : ℕ) → getD bytes i 0 < 256 = λ i. below-at 256 i bytes (omega arith) e in
+    rw (packets-at bytes k l, four-at bytes (4 * k)) (omega (arith, b (4 * k), b (4 * k + 1), b (4 * k + 2), b (4 * k + 3))))
+
+-- ---- the bytes of packets
+
+pub length-bytes : (ps : List ℕ) → length (bytesOf ps) ≡ 4 * length ps
+unfolding bytesOf
+length-bytes [] = refl
+length-bytes (p ∷ ps) = omega (arith, length-bytes ps)
+
+pub bytes-cons : (p : ℕ) (ps : List ℕ) → bytesOf (p ∷ ps) ≡ littleBytes 4 p ++ bytesOf ps
+unfolding bytesOf
+bytes-cons p ps = refl
+
+pub bytes-none : bytesOf [] ≡ []
+unfolding bytesOf
+bytes-none = refl
+
+pub bytes-append : (xs ys : List ℕ) → bytesOf (xs ++ ys) ≡ bytesOf xs ++ bytesOf ys
+unfolding bytesOf
+bytes-append [] ys = refl
+bytes-append (x ∷ xs) ys = ap (λ (l : List ℕ). littleBytes 4 x ++ l) (bytes-append xs ys)
+
+bytes-at : (ps : List ℕ) (k : ℕ) → allBelow (2 ^ 32) ps ≡ true → k < length ps → unsignedAt little 4 (bytesOf ps) (4 * k) ≡ getD ps k 0
+unfolding bytesOf
+bytes-at [] k b h = let z : ⊥ = omega arith in absurd z
+bytes-at (p ∷ ps) zero b h =
+    let l = below-parts (2 ^ 32) p ps b .0 in
+    four-at (littleBytes 4 p ++ bytesOf ps) 0 ∙ omega arith
+bytes-at (p ∷ ps) (suc k) b h =
+    let e₀ : 4 * suc k ≡ suc (suc (suc (suc (4 * k)))) = omega arith in
+    let e₁ : 4 * suc k + 1 ≡ suc (suc (suc (suc (4 * k + 1)))) = omega arith in
+    let e₂ : 4 * suc k + 2 ≡ suc (suc (suc (suc (4 * k + 2)))) = omega arith in
+    let e₃ : 4 * suc k + 3 ≡ suc (suc (suc (suc (4 * k + 3)))) = omega arith in
+    four-at (littleBytes 4 p ++ bytesOf ps) (4 * suc k)
+    ∙ (rw (e₁, e₂, e₃, e₀) (sym (four-at (bytesOf ps) (4 * k))) ∙ bytes-at ps k (below-parts (2 ^ 32) p ps b .1) (omega arith))
+
+-- The bytes of packets stand for those packets.
+pub packets-bytes : (ps : List ℕ) → allBelow (2 ^ 32) ps ≡ true → packetsOf (bytesOf ps) ≡ ps
+packets-bytes ps b =
+    let l : length (packetsOf (bytesOf ps)) ≡ length ps = length-packets (bytesOf ps) ∙ omega (arith, length-bytes ps) in
+    ext-getD 0 (packetsOf (bytesOf ps)) ps l
+    (λ k h.
+    let g : k < length (bytesOf ps) / 4 = omega (arith, length-bytes ps) in
+    packets-at (bytesOf ps) k g ∙ bytes-at ps k b (omega arith))

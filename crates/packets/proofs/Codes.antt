@@ -1,0 +1,202 @@
+-- The codes of a packet, one by one, and its tests. Assumes nothing.
+use mathlib.Core.Path.{_≡_, refl, ap, _∙_}
+use mathlib.Core.Bool.{Bool, true, false, not, cond, _&&_}
+use mathlib.Core.List.{List, [], _∷_}
+use Prim.Native.Nat.{ℕ, suc, _+_, _/_, _%_, _^_, _-_, _≤_, _<_}
+use native.Mathlib.Omega.{arith}
+use lib.Dec.{eqb}
+use lib.ListN.{length, take, drop, set}
+use lib.Seq.{paste, length-take-le, take-all}
+use borrow.Author.Tests.{lt-ltb, le-ltb, eq-eqb, ne-eqb, eqb-true, eqb-false, le-leb, lt-leb}
+use Rattle.laws.specs.Digits.{digits, allBelow}
+use Rattle.laws.specs.Writing.{writtenAt}
+use Rattle.laws.proofs.Tests.{bool-cases}
+use Rattle.laws.proofs.Digits.{digit, digits-cons, digits-none, length-digits, below-parts}
+use Rattle.laws.proofs.Writing.{write-step, rest-step}
+use Rattle.residues.specs.Alphabets.{isAmino, codeLimit}
+use Rattle.packets.specs.Runs.{endsRun, isFiveBit, codesIn, beforeFill, residues, onlyFill, validTailed, inner, final}
+use Rattle.packets.specs.Decoded.{putFirst, codesPut, residuesPut}
+
+module _ (k n p : ℕ) (h : 0 < n) where
+  pub below-next : (m : ℕ) → digit k (n - 1) p < m → allBelow m (digits k n p) ≡ allBelow m (digits k (n - 1) p)
+  unfolding allBelow
+  below-next m l = rw (digits-cons k n p h, lt-ltb (digit k (n - 1) p) m l)
+
+  pub below-stops : (m : ℕ) → m ≤ digit k (n - 1) p → allBelow m (digits k n p) ≡ false
+  unfolding allBelow
+  below-stops m l = rw (digits-cons k n p h, le-ltb (digit k (n - 1) p) m l)
+
+  pub fill-next : digit k (n - 1) p ≡ 31 → onlyFill (digits k n p) ≡ onlyFill (digits k (n - 1) p)
+  unfolding onlyFill
+  fill-next l = rw (digits-cons k n p h, eq-eqb (digit k (n - 1) p) 31 l)
+
+  pub fill-stops : (digit k (n - 1) p ≡ 31 → ⊥) → onlyFill (digits k n p) ≡ false
+  unfolding onlyFill
+  fill-stops l = rw (digits-cons k n p h, ne-eqb (digit k (n - 1) p) 31 l)
+
+  pub tailed-next : (m : ℕ) → (digit k (n - 1) p ≡ 31 → ⊥) → digit k (n - 1) p < m → validTailed m (digits k n p) ≡ validTailed m (digits k (n - 1) p)
+  unfolding validTailed
+  tailed-next m l b = rw (digits-cons k n p h, ne-eqb (digit k (n - 1) p) 31 l, lt-ltb (digit k (n - 1) p) m b)
+
+  pub tailed-fill : (m : ℕ) → digit k (n - 1) p ≡ 31 → validTailed m (digits k n p) ≡ onlyFill (digits k (n - 1) p)
+  unfolding validTailed
+  tailed-fill m l = rw (digits-cons k n p h, eq-eqb (digit k (n - 1) p) 31 l)
+
+  pub tailed-stops : (m : ℕ) → (digit k (n - 1) p ≡ 31 → ⊥) → m ≤ digit k (n - 1) p → validTailed m (digits k n p) ≡ false
+  unfolding validTailed
+  tailed-stops m l b = rw (digits-cons k n p h, ne-eqb (digit k (n - 1) p) 31 l, le-ltb (digit k (n - 1) p) m b)
+
+  pub before-next : (digit k (n - 1) p ≡ 31 → ⊥) → beforeFill (digits k n p) ≡ digit k (n - 1) p ∷ beforeFill (digits k (n - 1) p)
+  unfolding beforeFill
+  before-next l = rw (digits-cons k n p h, ne-eqb (digit k (n - 1) p) 31 l)
+
+  pub before-ends : digit k (n - 1) p ≡ 31 → beforeFill (digits k n p) ≡ []
+  unfolding beforeFill
+  before-ends l = rw (digits-cons k n p h, eq-eqb (digit k (n - 1) p) 31 l)
+
+module _ (k n p : ℕ) (h : n ≤ 0) where
+  pub below-done : (m : ℕ) → allBelow m (digits k n p) ≡ true
+  unfolding allBelow
+  below-done m = rw (digits-none k n p h)
+
+  pub fill-done : onlyFill (digits k n p) ≡ true
+  unfolding onlyFill
+  fill-done = rw (digits-none k n p h)
+
+  pub tailed-done : (m : ℕ) → validTailed m (digits k n p) ≡ true
+  unfolding validTailed
+  tailed-done m = rw (digits-none k n p h)
+
+  pub before-done : beforeFill (digits k n p) ≡ []
+  unfolding beforeFill
+  before-done = rw (digits-none k n p h)
+
+-- ---- the codes before the first 31
+
+pub before-le : (ds : List ℕ) → length (beforeFill ds) ≤ length ds
+unfolding beforeFill
+before-le [] = omega arith
+before-le (d ∷ ds) =
+    elim (eqb d 31) as (λ (b : Bool). length (cond b [] (d ∷ beforeFill ds)) ≤ suc (length ds))
+    [ true ↦ omega arith | false ↦ omega (arith, before-le ds) ]
+
+pub before-prefix : (ds : List ℕ) → take (length (beforeFill ds)) ds ≡ beforeFill ds
+unfolding beforeFill
+before-prefix [] = refl
+before-prefix (d ∷ ds) =
+    elim (eqb d 31) as (λ (b : Bool). take (length (cond b [] (d ∷ beforeFill ds))) (d ∷ ds) ≡ cond b [] (d ∷ beforeFill ds))
+    [ true ↦ refl | false ↦ ap (λ (l : List ℕ). d ∷ l) (before-prefix ds) ]
+
+-- valid codes have no 31
+pub before-all : (ds : List ℕ) → allBelow 28 ds ≡ true → beforeFill ds ≡ ds
+unfolding beforeFill
+before-all [] e = refl
+before-all (d ∷ ds) e =
+    let q = below-parts 28 d ds e in
+    let n : eqb d 31 ≡ false = ne-eqb d 31 (λ x. omega arith) in
+    rw n (ap (λ (l : List ℕ). d ∷ l) (before-all ds (q .1)))
+
+-- ---- the tests of a packet, case by case
+
+pub residues-is : (p : ℕ) → residues p ≡ cond (isFiveBit p) (beforeFill (digits 5 6 p)) (digits 2 15 p)
+unfolding residues
+residues-is p = refl
+
+pub inner-is : (a p : ℕ) → inner a p ≡ (not (endsRun p) && cond (isFiveBit p) (allBelow (codeLimit a) (digits 5 6 p)) (not (isAmino a)))
+unfolding inner
+inner-is a p = refl
+
+pub final-is : (a p : ℕ) → final a p ≡ (endsRun p && cond (isFiveBit p) (validTailed (codeLimit a) (digits 5 6 p)) (not (isAmino a)))
+unfolding final
+final-is a p = refl
+
+pub codes-is : (p : ℕ) → codesIn p ≡ cond (isFiveBit p) (digits 5 6 p) (digits 2 15 p)
+unfolding codesIn
+codes-is p = refl
+
+module _ (a p : ℕ) where
+  pub inner-ends : p / 2 ^ 31 % 2 ≡ 1 → inner a p ≡ false
+  inner-ends h = rw (inner-is, eq-eqb (p / 2 ^ 31 % 2) 1 h)
+
+  pub inner-five : (p / 2 ^ 31 % 2 ≡ 1 → ⊥) → p / 2 ^ 30 % 2 ≡ 1 → inner a p ≡ allBelow (codeLimit a) (digits 5 6 p)
+  inner-five h k = rw (inner-is, ne-eqb (p / 2 ^ 31 % 2) 1 h, eq-eqb (p / 2 ^ 30 % 2) 1 k)
+
+  pub inner-two : (p / 2 ^ 31 % 2 ≡ 1 → ⊥) → (p / 2 ^ 30 % 2 ≡ 1 → ⊥) → inner a p ≡ not (isAmino a)
+  inner-two h k = rw (inner-is, ne-eqb (p / 2 ^ 31 % 2) 1 h, ne-eqb (p / 2 ^ 30 % 2) 1 k)
+
+  pub final-goes : (p / 2 ^ 31 % 2 ≡ 1 → ⊥) → final a p ≡ false
+  final-goes h = rw (final-is, ne-eqb (p / 2 ^ 31 % 2) 1 h)
+
+  pub final-five : p / 2 ^ 31 % 2 ≡ 1 → p / 2 ^ 30 % 2 ≡ 1 → final a p ≡ validTailed (codeLimit a) (digits 5 6 p)
+  final-five h k = rw (final-is, eq-eqb (p / 2 ^ 31 % 2) 1 h, eq-eqb (p / 2 ^ 30 % 2) 1 k)
+
+  pub final-two : p / 2 ^ 31 % 2 ≡ 1 → (p / 2 ^ 30 % 2 ≡ 1 → ⊥) → final a p ≡ not (isAmino a)
+  final-two h k = rw (final-is, eq-eqb (p / 2 ^ 31 % 2) 1 h, ne-eqb (p / 2 ^ 30 % 2) 1 k)
+
+module _ (p : ℕ) where
+  pub residues-five : p / 2 ^ 30 % 2 ≡ 1 → residues p ≡ beforeFill (digits 5 6 p)
+  residues-five h = rw (residues-is, eq-eqb (p / 2 ^ 30 % 2) 1 h)
+
+  pub residues-two : (p / 2 ^ 30 % 2 ≡ 1 → ⊥) → residues p ≡ digits 2 15 p
+  residues-two h = rw (residues-is, ne-eqb (p / 2 ^ 30 % 2) 1 h)
+
+  pub codes-five : p / 2 ^ 30 % 2 ≡ 1 → codesIn p ≡ digits 5 6 p
+  codes-five h = rw (codes-is, eq-eqb (p / 2 ^ 30 % 2) 1 h)
+
+  pub codes-two : (p / 2 ^ 30 % 2 ≡ 1 → ⊥) → codesIn p ≡ digits 2 15 p
+  codes-two h = rw (codes-is, ne-eqb (p / 2 ^ 30 % 2) 1 h)
+
+-- a packet has at most fifteen residues
+pub residues-most : (p : ℕ) → length (residues p) ≤ 15
+residues-most p =
+    bool-cases (isFiveBit p)
+    (λ e. omega (arith, ap length (residues-five p (eqb-true _ 1 e)), before-le (digits 5 6 p), length-digits 5 6 p))
+    (λ e. omega (arith, ap length (residues-two p (eqb-false _ 1 e)), length-digits 2 15 p))
+
+-- ---- codes written
+
+-- a turn of a loop that writes digits: n are left, and place i is the next
+module _ (k N p : ℕ) (d : List ℕ) (i n : ℕ) (out : List ℕ) (so-far : out ≡ paste d 0 (digits k N p) i)
+    (rest : drop i (digits k N p) ≡ digits k n p) (more : 0 < n) where
+  pub put-step : 0 + i < length d → set out (0 + i) (digit k (n - 1) p) ≡ paste d 0 (digits k N p) (i + 1)
+  put-step room =
+      ap (λ (x : List ℕ). set x (0 + i) (digit k (n - 1) p)) so-far
+      ∙ write-step d 0 (digits k N p) i (digit k (n - 1) p) (digits k (n - 1) p) room (rest ∙ digits-cons k n p more)
+
+  pub put-rest : drop (i + 1) (digits k N p) ≡ digits k (n - 1) p
+  put-rest = rest-step (digits k N p) i (digit k (n - 1) p) (digits k (n - 1) p) (rest ∙ digits-cons k n p more)
+
+put-fits : (cs ds range : List ℕ) → ds ≡ cs → length ds ≤ length range → putFirst ds range ≡ writtenAt 0 cs range
+put-fits cs ds range e h = rw (le-leb (length ds) (length range) h, e)
+
+put-not : (ds range : List ℕ) → length range < length ds → putFirst ds range ≡ range
+put-not ds range h = rw (lt-leb (length ds) (length range) h)
+
+module _ (p : ℕ) (range : List ℕ) where
+  pub codes-put : (cs : List ℕ) → codesIn p ≡ cs → length cs ≤ length range → codesPut p range ≡ writtenAt 0 cs range
+  unfolding codesPut
+  codes-put cs e h = put-fits cs (codesIn p) range e (rw e h)
+
+  pub codes-lost : (cs : List ℕ) → codesIn p ≡ cs → length range < length cs → codesPut p range ≡ range
+  unfolding codesPut
+  codes-lost cs e h = put-not (codesIn p) range (rw e h)
+
+  pub residues-put : (cs : List ℕ) → residues p ≡ cs → length cs ≤ length range → residuesPut p range ≡ writtenAt 0 cs range
+  unfolding residuesPut
+  residues-put cs e h = put-fits cs (residues p) range e (rw e h)
+
+  pub residues-lost : (cs : List ℕ) → residues p ≡ cs → length range < length cs → residuesPut p range ≡ range
+  unfolding residuesPut
+  residues-lost cs e h = put-not (residues p) range (rw e h)
+
+  -- a 2-bit packet's residues are its codes
+  pub two-put : codesIn p ≡ residues p → codesPut p range ≡ residuesPut p range
+  unfolding codesPut residuesPut
+  two-put e = rw e
+
+-- the first digits written
+pub put-done : (k N p count : ℕ) (d : List ℕ) → count ≤ N → paste d 0 (digits k N p) count ≡ writtenAt 0 (take count (digits k N p)) d
+put-done k N p count d h = rw (length-take-le count (digits k N p) (rw (length-digits k N p) h))
+
+pub put-all : (k N p : ℕ) (d : List ℕ) → paste d 0 (digits k N p) N ≡ writtenAt 0 (digits k N p) d
+put-all k N p d = put-done k N p N d (omega arith) ∙ rw (take-all N (digits k N p) (rw (length-digits k N p) (omega arith)))

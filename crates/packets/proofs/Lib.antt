@@ -1,0 +1,12 @@
+pub mod Packing
+pub mod Codes
+pub mod Filled
+pub mod Steps
+pub mod Packed
+pub mod Round
+pub mod Shapes
+pub mod Back
+pub mod Lengths
+pub mod Ends
+pub mod Bytes
+pub mod Rules

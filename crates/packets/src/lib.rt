@@ -1,0 +1,282 @@
+// Packets: places, one packet from codes and back, and the step by step test of a run. Every public function is total.
+mod encoding;
+
+pub use encoding::encode;
+pub use encoding::sixes_of;
+pub use encoding::valid_codes;
+ghost use mathlib.Core.Path.{_≡_};
+ghost use Prim.Native.Nat.{_≤_};
+ghost use lib.Dec.{ltb};
+ghost use lib.ListN.{length, take};
+ghost use Rattle.laws.specs.Digits.{digits, allBelow};
+ghost use Rattle.laws.specs.Writing.{writtenAt};
+ghost use Rattle.packets.specs.Positions.{byteOf};
+ghost use Rattle.packets.specs.Runs.{codesIn, beforeFill, residues, onlyFill, validTailed, inner, final};
+ghost use Rattle.packets.specs.Steps.{goneOn, closed, runStep, stateAfter, ended};
+ghost use Rattle.packets.specs.Decoded.{codesPut, residuesPut};
+
+// A place counted in packets.
+pub struct PacketPos(pub u64);
+
+// A place counted in bytes.
+pub struct BytePos(pub u64);
+
+// The next packet, and how many residues it takes.
+pub struct Next {
+    pub packet: u32,
+    pub size: usize,
+}
+
+// Where a run stands after some packets.
+pub enum RunState {
+    // no packet yet
+    Empty,
+    // packets, none of which ends a run
+    Inside,
+    // a well-formed run
+    Ended,
+    // no well-formed run begins so
+    Broken,
+}
+
+// The byte at which a packet begins, behind a header of so many bytes.
+pub fn byte_of(place: PacketPos, header: u64) -> BytePos
+    ensures { λ r. ⌜ r .0 ≡ byteOf header (place .0) ⌝ }
+{
+    let at = place.0;
+    if at > (18446744073709551615 - header) / 4 {
+        return BytePos(18446744073709551615);
+    }
+    BytePos(4 * at + header)
+}
+
+// The number of codes of a packet, those that are 31 among them.
+pub fn code_count(packet: u32) -> usize
+    ensures { λ r. ⌜ r ≡ length (codesIn packet) ⌝ }
+{
+    if packet / 1073741824 % 2 == 1 {
+        return 6;
+    }
+    15
+}
+
+// Whether all six 5-bit codes are below a limit.
+fn codes_below(packet: u32, limit: u32) -> bool
+    ensures { λ r. ⌜ r ≡ allBelow limit (digits 5 6 packet) ⌝ }
+{
+    let mut n: u32 = 6;
+    while n > 0 {
+        n -= 1;
+        if (packet >> (5 * n)) % 32 >= limit {
+            return false;
+        }
+    }
+    true
+}
+
+// Whether the last 5-bit codes are all 31.
+fn only_fill(packet: u32, count: u32) -> bool
+    requires { ⌜ count ≤ 6 ⌝ }
+    ensures { λ r. ⌜ r ≡ onlyFill (digits 5 count packet) ⌝ }
+{
+    let mut n = count;
+    while n > 0 {
+        n -= 1;
+        if (packet >> (5 * n)) % 32 != 31 {
+            return false;
+        }
+    }
+    true
+}
+
+// Whether the six 5-bit codes are below a limit, then only 31.
+fn codes_tailed(packet: u32, limit: u32) -> bool
+    ensures { λ r. ⌜ r ≡ validTailed limit (digits 5 6 packet) ⌝ }
+{
+    let mut n: u32 = 6;
+    while n > 0 {
+        n -= 1;
+        let c = (packet >> (5 * n)) % 32;
+        if c == 31 {
+            return only_fill(packet, n);
+        }
+        if c >= limit {
+            return false;
+        }
+    }
+    true
+}
+
+// The number of 5-bit codes before the first 31.
+fn count_before(packet: u32) -> usize
+    ensures value { λ r. ⌜ r ≡ length (beforeFill (digits 5 6 packet)) ⌝ }
+{
+    let mut n: u32 = 6;
+    let mut k: usize = 0;
+    while n > 0 {
+        n -= 1;
+        if (packet >> (5 * n)) % 32 == 31 {
+            return k;
+        }
+        k += 1;
+    }
+    k
+}
+
+// The number of residues of a packet.
+pub fn residue_count(packet: u32) -> usize
+    ensures { λ r. ⌜ r ≡ length (residues packet) ⌝ }
+{
+    if packet / 1073741824 % 2 != 1 {
+        return 15;
+    }
+    count_before(packet)
+}
+
+// Whether a packet may stand in a run before its last packet.
+pub fn is_inner(alphabet: u32, packet: u32) -> bool
+    ensures { λ r. ⌜ r ≡ inner alphabet packet ⌝ }
+{
+    if packet / 2147483648 % 2 == 1 {
+        return false;
+    }
+    if packet / 1073741824 % 2 == 1 {
+        return codes_below(packet, residues::code_limit(alphabet) as u32);
+    }
+    alphabet != 3
+}
+
+// Whether a packet may be a run's last.
+fn is_final(alphabet: u32, packet: u32) -> bool
+    ensures { λ r. ⌜ r ≡ final alphabet packet ⌝ }
+{
+    if packet / 2147483648 % 2 != 1 {
+        return false;
+    }
+    if packet / 1073741824 % 2 == 1 {
+        return codes_tailed(packet, residues::code_limit(alphabet) as u32);
+    }
+    alphabet != 3
+}
+
+// The state after a packet that does not end the run.
+fn gone_on(state: RunState) -> RunState
+    ensures { λ r. ⌜ r ≡ goneOn state ⌝ }
+{
+    match state {
+        RunState::Empty => RunState::Inside,
+        RunState::Inside => RunState::Inside,
+        RunState::Ended => RunState::Broken,
+        RunState::Broken => RunState::Broken,
+    }
+}
+
+// The state after a packet of so many residues that ends the run.
+fn close(state: RunState, count: usize) -> RunState
+    ensures { λ r. ⌜ r ≡ closed (ltb 0 count) state ⌝ }
+{
+    match state {
+        RunState::Empty => RunState::Ended,
+        RunState::Inside => {
+            if 0 < count {
+                RunState::Ended
+            } else {
+                RunState::Broken
+            }
+        }
+        RunState::Ended => RunState::Broken,
+        RunState::Broken => RunState::Broken,
+    }
+}
+
+// The state of a run after one packet more.
+pub fn step(alphabet: u32, state: RunState, packet: u32) -> RunState
+    ensures { λ r. ⌜ r ≡ runStep alphabet state packet ⌝ }
+{
+    if is_inner(alphabet, packet) {
+        return gone_on(state);
+    }
+    if is_final(alphabet, packet) {
+        return close(state, residue_count(packet));
+    }
+    RunState::Broken
+}
+
+// The state of a run after so many packets that may stand before its last.
+pub fn state_after(count: usize) -> RunState
+    ensures { λ r. ⌜ r ≡ stateAfter count ⌝ }
+{
+    if count == 0 {
+        return RunState::Empty;
+    }
+    RunState::Inside
+}
+
+// Whether the packets so far are a well-formed run.
+pub fn is_ended(state: RunState) -> bool
+    ensures { λ r. ⌜ r ≡ ended state ⌝ }
+{
+    match state {
+        RunState::Empty => false,
+        RunState::Inside => false,
+        RunState::Ended => true,
+        RunState::Broken => false,
+    }
+}
+
+// Writes the fifteen 2-bit codes of a packet.
+fn put_two(packet: u32, out: &mut [u8])
+    requires { ⌜ 15 ≤ length (now out) ⌝ }
+    ensures { λ _. ⌜ now (out .exit) ≡ writtenAt 0 (digits 2 15 packet) (now (out .entry)) ⌝ }
+{
+    let mut n: u32 = 15;
+    let mut i: usize = 0;
+    while n > 0 {
+        n -= 1;
+        out[i] = ((packet >> (2 * n)) % 4) as u8;
+        i += 1;
+    }
+}
+
+// Writes the first 5-bit codes of a packet.
+fn put_first(packet: u32, count: usize, out: &mut [u8])
+    requires { ⌜ (count ≤ 6) × (count ≤ length (now out)) ⌝ }
+    ensures { λ _. ⌜ now (out .exit) ≡ writtenAt 0 (take count (digits 5 6 packet)) (now (out .entry)) ⌝ }
+{
+    let mut n: u32 = 6;
+    let mut i: usize = 0;
+    while i < count {
+        n -= 1;
+        out[i] = ((packet >> (5 * n)) % 32) as u8;
+        i += 1;
+    }
+}
+
+// Writes the codes of a packet at the start of the output, those that are 31 among them; nothing where they do not fit.
+pub fn decode_codes(packet: u32, out: &mut [u8])
+    ensures { λ _. ⌜ now (out .exit) ≡ codesPut packet (now (out .entry)) ⌝ }
+{
+    if out.len() < code_count(packet) {
+        return;
+    }
+    if packet / 1073741824 % 2 == 1 {
+        put_first(packet, 6, out);
+        return;
+    }
+    put_two(packet, out);
+}
+
+// Writes the residues of a packet at the start of the output; nothing where they do not fit.
+pub fn decode(packet: u32, out: &mut [u8])
+    ensures { λ _. ⌜ now (out .exit) ≡ residuesPut packet (now (out .entry)) ⌝ }
+{
+    let count = residue_count(packet);
+    if out.len() < count {
+        return;
+    }
+    if packet / 1073741824 % 2 == 1 {
+        put_first(packet, count, out);
+        return;
+    }
+    put_two(packet, out);
+}
