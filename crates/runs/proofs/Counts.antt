@@ -1,0 +1,73 @@
+-- The residues of a well-formed run, counted and written packet by packet. Assumes nothing.
+use mathlib.Core.Path.{_≡_, refl, sym, ap, _∙_}
+use mathlib.Core.Bool.{true}
+use mathlib.Core.List.{List, [], _++_}
+use Prim.Native.Nat.{ℕ, _+_, _-_, _≤_, _<_}
+use native.Mathlib.Omega.{arith}
+use borrow.Rule.Slice.PartMut.{putMid, midOf}
+use lib.ListN.{length, drop, getD, length-drop, length-append}
+use lib.Seq.{paste}
+use Rattle.laws.specs.Writing.{writtenAt}
+use Rattle.laws.proofs.Parts.{part-rest, part-written}
+use Rattle.laws.proofs.Writing.{paste-whole, paste-part, rest-part}
+use Rattle.packets.specs.Runs.{codesIn, residues, wellFormed, unpacked}
+use Rattle.packets.specs.Decoded.{codesPut, residuesPut}
+use Rattle.packets.proofs.Codes.{codes-put, residues-put}
+use Rattle.packets.proofs.Shapes.{inner-codes, well-inner, unpacked-from, unpacked-end, count-from}
+
+-- a packet before the last: as many residues as codes
+pub count-inner : (a : ℕ) (ps : List ℕ) → wellFormed a ps ≡ true → (i : ℕ) → i + 1 < length ps
+    → length (unpacked (drop i ps)) ≡ length (codesIn (getD ps i 0)) + length (unpacked (drop (i + 1) ps))
+count-inner a ps e i h =
+    count-from ps i (omega arith) ∙ ap (λ (n : ℕ). n + length (unpacked (drop (i + 1) ps))) (ap length (inner-codes a (getD ps i 0) (well-inner a ps e i h)))
+
+-- the last packet
+pub count-last : (ps : List ℕ) (i : ℕ) → i + 1 ≡ length ps → length (unpacked (drop i ps)) ≡ length (residues (getD ps i 0))
+count-last ps i h = count-from ps i (omega arith) ∙ omega (arith, ap length (unpacked-end ps (i + 1) (omega arith)))
+
+-- the codes, or the residues, of a packet written from a place on
+part-length : (out : List ℕ) (at : ℕ) → length (midOf at (length out - at) out) ≡ length out - at
+part-length out at = ap length (part-rest out at) ∙ length-drop at out
+
+module _ (p : ℕ) (out : List ℕ) (at : ℕ) (part : List ℕ) where
+  pub part-codes : at + length (codesIn p) ≤ length out → part ≡ codesPut p (midOf at (length out - at) out)
+      → putMid at (length out - at) out part ≡ writtenAt at (codesIn p) out
+  part-codes h e =
+      part-written out at part (codesIn p) h
+      (e ∙ codes-put p (midOf at (length out - at) out) (codesIn p) refl (omega (arith, part-length out at)))
+
+  pub part-residues : at + length (residues p) ≤ length out → part ≡ residuesPut p (midOf at (length out - at) out)
+      → putMid at (length out - at) out part ≡ writtenAt at (residues p) out
+  part-residues h e =
+      part-written out at part (residues p) h
+      (e ∙ residues-put p (midOf at (length out - at) out) (residues p) refl (omega (arith, part-length out at)))
+
+-- a part xs of U written behind what is written so far; d is the output at first
+module _ (d U : List ℕ) (at : ℕ) (out : List ℕ) (so-far : out ≡ paste d 0 U at) (low : at ≤ length U) (xs rest : List ℕ) (e : drop at U ≡ xs ++ rest) where
+  pub part-within : at + length xs ≤ length U
+  part-within = omega (arith, length-drop at U, ap length e, length-append xs rest)
+
+  pub part-goes : writtenAt at xs out ≡ paste d 0 U (at + length xs)
+  part-goes =
+      let z : 0 + at ≡ at = omega arith in
+      sym (paste-whole at xs out)
+      ∙ (ap (λ (l : List ℕ). paste l at xs (length xs)) so-far
+      ∙ (ap (λ (n : ℕ). paste (paste d 0 U at) n xs (length xs)) (sym z) ∙ paste-part d 0 U at xs rest (omega arith) low e))
+
+  pub part-behind : drop (at + length xs) U ≡ rest
+  part-behind = rest-part U at xs rest e
+
+  pub part-ends : rest ≡ [] → writtenAt at xs out ≡ writtenAt 0 U d
+  part-ends r =
+      let n : at + length xs ≡ length U = omega (arith, length-drop at U, ap length e, length-append xs rest, ap length r) in
+      part-goes ∙ rw n (paste-whole 0 U d)
+
+-- packet i of a well-formed run
+module _ (a : ℕ) (ps : List ℕ) (e : wellFormed a ps ≡ true) (i : ℕ) where
+  pub inner-from : i + 1 < length ps → unpacked (drop i ps) ≡ codesIn (getD ps i 0) ++ unpacked (drop (i + 1) ps)
+  inner-from h =
+      unpacked-from ps i (omega arith)
+      ∙ ap (λ (l : List ℕ). l ++ unpacked (drop (i + 1) ps)) (inner-codes a (getD ps i 0) (well-inner a ps e i h))
+
+  pub last-from : i + 1 ≡ length ps → (unpacked (drop i ps) ≡ residues (getD ps i 0) ++ unpacked (drop (i + 1) ps)) × (unpacked (drop (i + 1) ps) ≡ [])
+  last-from h = (unpacked-from ps i (omega arith), unpacked-end ps (i + 1) (omega arith))

@@ -1,0 +1,70 @@
+-- Packing and unpacking succeed exactly when document 01's rules hold, one by one. Assumes nothing.
+use mathlib.Core.Path.{_≡_, _∙_}
+use mathlib.Core.Bool.{true}
+use mathlib.Core.List.{List}
+use Prim.Native.Nat.{ℕ, _≤_}
+use lib.Dec.{leb}
+use lib.ListN.{length}
+use borrow.Author.Tests.{le-leb, leb-true}
+use Rattle.laws.proofs.Tests.{both-pass}
+use Rattle.laws.proofs.Digits.{below-at, below-all}
+use Rattle.residues.specs.Alphabets.{isAlphabet, codeLimit}
+use Rattle.packets.specs.Packing.{run}
+use Rattle.packets.specs.Runs.{wellFormed, unpacked}
+use Rattle.packets.specs.Bytes.{packetsOf}
+use Rattle.packets.proofs.Packing.{limit-some}
+use Rattle.packets.proofs.Rules.{formed-rules, rules-formed}
+use Rattle.runs.specs.Answers.{packAnswer, unpackAnswer}
+use Rattle.runs.specs.Bytes.{unpackBytesAnswer}
+use Rattle.runs.specs.Rules.{Packs, RunUnpacks, Unpacks, UnpacksBytes}
+use Rattle.runs.specs.declared.PackAnswer.the-variants as Pack
+use Rattle.runs.specs.declared.UnpackAnswer.the-variants as Unpack
+use Rattle.runs.proofs.Answers.{MayPack, pack-done, packed-may, MayUnpack, unpack-as, unpack-bytes-as, run-done, unpacked-may, unpacked-bytes-may}
+
+known : (a : ℕ) → isAlphabet a ≡ true → (1 ≤ a) × (a ≤ 3)
+known a e = let p = both-pass (leb 1 a) (leb a 3) e in (leb-true 1 a (p .0), leb-true a 3 (p .1))
+
+known-back : (a : ℕ) → (1 ≤ a) × (a ≤ 3) → isAlphabet a ≡ true
+known-back a h = rw (le-leb 1 a (h .0), le-leb a 3 (h .1))
+
+module _ (a : ℕ) (codes : List ℕ) (room place : ℕ) where
+  may : MayPack a codes room place → Packs a codes room place
+  may m = record { inputSize = m .small; known = known a (m .known); valid = λ k h. below-at (codeLimit a) k codes (limit-some a) (m .valid); fits = m .fits }
+
+  must : Packs a codes room place → MayPack a codes room place
+  must r = record { small = r .inputSize; known = known-back a (r .known); valid = below-all (codeLimit a) codes (r .valid); fits = r .fits }
+
+  -- Where the rules hold packing answers 0, the run's packets and L.
+  pub rules-pack : Packs a codes room place → packAnswer a codes room place ≡ Pack.Packed (length (run a codes)) (length codes)
+  rules-pack r = pack-done a codes room place (must r)
+
+  -- Where packing answers 0 the rules hold.
+  pub packed-rules : (n l : ℕ) → packAnswer a codes room place ≡ Pack.Packed n l → Packs a codes room place
+  packed-rules n l e = may (packed-may a codes room place n l e)
+
+module _ (a : ℕ) (packets : List ℕ) (room : ℕ) where
+  pub run-must : RunUnpacks a packets room → MayUnpack a packets room
+  run-must r = record { known = known-back a (r .known); formed = rules-formed a packets (r .wellFormed); fits = r .fits }
+
+  pub run-may : MayUnpack a packets room → RunUnpacks a packets room
+  run-may m = record { known = known a (m .known); wellFormed = formed-rules a packets (m .formed); fits = m .fits }
+
+  -- Where the rules hold unpacking answers 0, the run's packets and L.
+  pub rules-unpack : Unpacks a packets room → unpackAnswer a packets room ≡ Unpack.Unpacked (length packets) (length (unpacked packets))
+  rules-unpack r = unpack-as a packets room (r .inputSize) ∙ run-done a packets room (run-must (r .run))
+
+  -- Where unpacking answers 0 the rules hold.
+  pub unpacked-rules : (n l : ℕ) → unpackAnswer a packets room ≡ Unpack.Unpacked n l → Unpacks a packets room
+  unpacked-rules n l e = let m = unpacked-may a packets room n l e in record { inputSize = m .0; run = run-may (m .1) }
+
+-- The same of unpacking bytes.
+module _ (a : ℕ) (bytes : List ℕ) (room : ℕ) where
+  pub rules-unpack-bytes : UnpacksBytes a bytes room
+      → unpackBytesAnswer a bytes room ≡ Unpack.Unpacked (length (packetsOf bytes)) (length (unpacked (packetsOf bytes)))
+  rules-unpack-bytes r =
+      unpack-bytes-as a bytes room (r .inputSize) (r .whole) ∙ run-done a (packetsOf bytes) room (run-must a (packetsOf bytes) room (r .run))
+
+  pub unpacked-bytes-rules : (n l : ℕ) → unpackBytesAnswer a bytes room ≡ Unpack.Unpacked n l → UnpacksBytes a bytes room
+  unpacked-bytes-rules n l e =
+      let m = unpacked-bytes-may a bytes room n l e in
+      record { inputSize = m .0; whole = m .1; run = run-may a (packetsOf bytes) room (m .2) }

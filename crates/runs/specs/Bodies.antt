@@ -1,0 +1,79 @@
+-- Bodies of lists of sequences, and lists of packing calls (document 01, "Packets").
+-- Assumes nothing.
+use mathlib.Core.Path.{_≡_}
+use mathlib.Core.Bool.{true}
+use mathlib.Core.List.{List, [], _∷_, _++_}
+use Prim.Native.Nat.{ℕ, _+_, _≤_}
+use lib.ListN.{length, drop}
+use Rattle.residues.specs.Alphabets.{validCodes}
+use Rattle.packets.specs.Packing.{run}
+use Rattle.runs.specs.Answers.{packAnswer, packetsAfter}
+use Rattle.runs.specs.declared.PackAnswer.{PackAnswer}
+use Rattle.runs.specs.declared.PackAnswer.the-variants.{Packed, Refused}
+
+-- A sequence with its alphabet.
+pub record Item : Type 0 where
+  pub alphabet : ℕ
+  pub codes : List ℕ
+
+-- The body of a list of sequences: the run of each, in its own alphabet, one after another.
+abbrev pub body : List Item → List ℕ
+body [] = []
+body (s ∷ items) = run (s .alphabet) (s .codes) ++ body items
+
+-- The sequences alone, residue for residue.
+abbrev pub sequencesOf : List Item → List (List ℕ)
+sequencesOf [] = []
+sequencesOf (s ∷ items) = s .codes ∷ sequencesOf items
+
+-- Every sequence has codes that are valid in its own alphabet.
+abbrev pub AllValid : List Item → Type 0
+AllValid [] = Unit
+AllValid (s ∷ items) = (validCodes (s .alphabet) (s .codes) ≡ true) × AllValid items
+
+-- The first list begins the second.
+abbrev pub Begins {ℓ} : {A : Type ℓ} → List A → List A → Type ℓ
+Begins {A} first second = (rest : List A) × (first ++ rest ≡ second)
+
+-- ---- packing calls, one after another
+
+-- A packet buffer and the place of the next call.
+pub record Buffer : Type 0 where
+  pub packets : List ℕ
+  pub place : ℕ
+
+-- The packets that a call returned; none where it was refused.
+abbrev pub taken : PackAnswer → ℕ
+taken (Packed packets residues) = packets
+taken (Refused r) = 0
+
+-- The sequence before others, where the call packed it.
+abbrev pub ifTaken : PackAnswer → Item → List Item → List Item
+ifTaken (Packed packets residues) s items = s ∷ items
+ifTaken (Refused r) s items = items
+
+abbrev pub callAnswer : Buffer → Item → PackAnswer
+callAnswer buffer s = packAnswer (s .alphabet) (s .codes) (length (buffer .packets)) (buffer .place)
+
+-- A call gets the buffer as the call before left it, and as its place that call's place plus the packets it returned, or the
+-- same place if it was refused.
+abbrev pub afterCall : Buffer → Item → Buffer
+afterCall buffer s = record {
+  packets = packetsAfter (s .alphabet) (s .codes) (buffer .packets) (buffer .place);
+  place = buffer .place + taken (callAnswer buffer s);
+}
+
+abbrev pub afterCalls : Buffer → List Item → Buffer
+afterCalls buffer [] = buffer
+afterCalls buffer (s ∷ items) = afterCalls (afterCall buffer s) items
+
+-- The sequences that calls packed.
+abbrev pub packedOf : Buffer → List Item → List Item
+packedOf buffer [] = []
+packedOf buffer (s ∷ items) = ifTaken (callAnswer buffer s) s (packedOf (afterCall buffer s) items)
+
+-- A buffer that was `packets` at first: its packets before the place are `body`, and all others are as at first.
+pub record Holds (packets body : List ℕ) (buffer : Buffer) : Type 0 where
+  pub within : length body ≤ length packets
+  pub placeIs : buffer .place ≡ length body
+  pub packetsAre : buffer .packets ≡ body ++ drop (length body) packets

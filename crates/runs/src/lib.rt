@@ -1,0 +1,242 @@
+// Packing and unpacking, over packets and over packets that are little-endian bytes.
+mod byte_runs;
+
+use answers::Checked;
+use answers::Refusal;
+pub use byte_runs::pack_bytes;
+pub use byte_runs::unpack_bytes;
+pub use byte_runs::unpack_bytes_answer;
+use packets::PacketPos;
+ghost use mathlib.Core.Path.{_≡_};
+ghost use mathlib.Core.Bool.{true};
+ghost use Prim.Native.Nat.{_+_, _≤_};
+ghost use lib.ListN.{length};
+ghost use Rattle.laws.specs.Writing.{writtenAt};
+ghost use Rattle.answers.specs.Limits.{checkedBy};
+ghost use Rattle.residues.specs.Alphabets.{validCodes};
+ghost use Rattle.packets.specs.Packing.{run};
+ghost use Rattle.packets.specs.Runs.{wellFormed, unpacked};
+ghost use Rattle.runs.specs.Answers.{runFits, packRules, packAnswer, packetsAfter, unpackAnswer, codesAfter};
+
+// What packing answers: the run's packets and L, or why it refuses.
+pub enum PackAnswer {
+    Packed { packets: u64, residues: u64 },
+    Refused(Refusal),
+}
+
+// What unpacking answers: the run's packets and L, or why it refuses.
+pub enum UnpackAnswer {
+    Unpacked { packets: u64, residues: u64 },
+    Refused(Refusal),
+}
+
+// Counts the packets of a run, packet by packet.
+fn count_run(alphabet: u32, codes: &[u8]) -> usize
+    ensures { λ r. ⌜ r ≡ length (run alphabet (now (codes .entry))) ⌝ }
+{
+    let mut at: usize = 0;
+    let mut count: usize = 0;
+    loop {
+        let left = codes.len() - at;
+        let next = packets::encode(alphabet, &codes[at..], left);
+        let size = next.size;
+        count += 1;
+        if left <= size {
+            return count;
+        }
+        at += size;
+    }
+}
+
+// The number of packets of a run.
+fn run_length(alphabet: u32, codes: &[u8]) -> usize
+    ensures { λ r. ⌜ r ≡ length (run alphabet (now (codes .entry))) ⌝ }
+{
+    if alphabet == 3 {
+        return packets::sixes_of(codes.len());
+    }
+    count_run(alphabet, codes)
+}
+
+// Whether a buffer of so many packets has room for a run from its place on.
+fn run_fits(alphabet: u32, codes: &[u8], room: u64, place: PacketPos) -> bool
+    ensures { λ r. ⌜ r ≡ runFits alphabet (now (codes .entry)) room (place .0) ⌝ }
+{
+    let at = place.0;
+    if room < at {
+        return false;
+    }
+    let left = room - at;
+    if packets::sixes_of(codes.len()) as u64 <= left {
+        return true;
+    }
+    run_length(alphabet, codes) as u64 <= left
+}
+
+// The rules of packing.
+fn check_pack(alphabet: u32, codes: &[u8], room: u64, place: PacketPos) -> Checked
+    ensures { λ r. ⌜ r ≡ checkedBy (packRules alphabet (now (codes .entry)) room (place .0)) ⌝ }
+{
+    if codes.len() > answers::MOST_BYTES {
+        return Checked::Refused(Refusal::TooLarge);
+    }
+    if !residues::is_alphabet(alphabet) {
+        return Checked::Refused(Refusal::WrongKind);
+    }
+    if !packets::valid_codes(alphabet, codes) {
+        return Checked::Refused(Refusal::BadCode);
+    }
+    if !run_fits(alphabet, codes, room, place) {
+        return Checked::Refused(Refusal::NoRoom);
+    }
+    Checked::Passed
+}
+
+// What packing answers with so many packets of room; nothing is written.
+pub fn pack_answer(alphabet: u32, codes: &[u8], room: u64, place: PacketPos) -> PackAnswer
+    ensures { λ r. ⌜ r ≡ packAnswer alphabet (now (codes .entry)) room (place .0) ⌝ }
+{
+    match check_pack(alphabet, codes, room, place) {
+        Checked::Refused(r) => PackAnswer::Refused(r),
+        Checked::Passed => {
+            let count = run_length(alphabet, codes);
+            PackAnswer::Packed {
+                packets: count as u64,
+                residues: codes.len() as u64,
+            }
+        }
+    }
+}
+
+// Writes a run into a buffer from a place on.
+fn write_run(alphabet: u32, codes: &[u8], packets: &mut [u32], place: usize) -> usize
+    requires { ⌜ (validCodes alphabet (now codes) ≡ true) × (place + length (run alphabet (now codes)) ≤ length (now packets)) ⌝ }
+    ensures count { λ r. ⌜ r ≡ length (run alphabet (now (codes .entry))) ⌝ }
+    ensures packets { λ _. ⌜ now (packets .exit) ≡ writtenAt place (run alphabet (now (codes .entry))) (now (packets .entry)) ⌝ }
+{
+    let mut at: usize = 0;
+    let mut count: usize = 0;
+    loop {
+        let left = codes.len() - at;
+        let next = packets::encode(alphabet, &codes[at..], left);
+        let size = next.size;
+        packets[place + count] = next.packet;
+        count += 1;
+        if left <= size {
+            return count;
+        }
+        at += size;
+    }
+}
+
+// Packs a sequence: appends its run at a place of a packet buffer.
+pub fn pack(alphabet: u32, codes: &[u8], packets: &mut [u32], place: PacketPos) -> PackAnswer
+    ensures answer { λ r. ⌜ r ≡ packAnswer alphabet (now (codes .entry)) (length (now (packets .entry))) (place .0) ⌝ }
+    ensures packets { λ _. ⌜ now (packets .exit) ≡ packetsAfter alphabet (now (codes .entry)) (now (packets .entry)) (place .0) ⌝ }
+{
+    let at = place.0 as usize;
+    match check_pack(alphabet, codes, packets.len() as u64, place) {
+        Checked::Refused(r) => PackAnswer::Refused(r),
+        Checked::Passed => {
+            let count = write_run(alphabet, codes, packets, at);
+            PackAnswer::Packed {
+                packets: count as u64,
+                residues: codes.len() as u64,
+            }
+        }
+    }
+}
+
+// Whether packets are a well-formed run.
+pub fn is_run(alphabet: u32, packets: &[u32]) -> bool
+    ensures { λ r. ⌜ r ≡ wellFormed alphabet (now (packets .entry)) ⌝ }
+{
+    if packets.len() == 0 {
+        return false;
+    }
+    let last = packets.len() - 1;
+    let mut i: usize = 0;
+    while i < last {
+        if !packets::is_inner(alphabet, packets[i]) {
+            return false;
+        }
+        i += 1;
+    }
+    let state = packets::step(alphabet, packets::state_after(last), packets[last]);
+    packets::is_ended(state)
+}
+
+// The number of residues of a well-formed run.
+fn count_residues(alphabet: u32, packets: &[u32]) -> usize
+    requires { ⌜ (wellFormed alphabet (now packets) ≡ true) × (length (now packets) ≤ 536870912) ⌝ }
+    ensures { λ r. ⌜ r ≡ length (unpacked (now (packets .entry))) ⌝ }
+{
+    let last = packets.len() - 1;
+    let mut total: usize = 0;
+    let mut i: usize = 0;
+    while i < last {
+        total += packets::code_count(packets[i]);
+        i += 1;
+    }
+    total + packets::residue_count(packets[last])
+}
+
+// What unpacking answers with so many bytes of room; nothing is written.
+pub fn unpack_answer(alphabet: u32, packets: &[u32], room: usize) -> UnpackAnswer
+    ensures { λ r. ⌜ r ≡ unpackAnswer alphabet (now (packets .entry)) room ⌝ }
+{
+    if packets.len() > answers::MOST_PACKETS {
+        return UnpackAnswer::Refused(Refusal::TooLarge);
+    }
+    if !residues::is_alphabet(alphabet) {
+        return UnpackAnswer::Refused(Refusal::WrongKind);
+    }
+    if !is_run(alphabet, packets) {
+        return UnpackAnswer::Refused(Refusal::BadRun);
+    }
+    let total = count_residues(alphabet, packets);
+    if room < total {
+        return UnpackAnswer::Refused(Refusal::NoRoom);
+    }
+    UnpackAnswer::Unpacked {
+        packets: packets.len() as u64,
+        residues: total as u64,
+    }
+}
+
+// Writes the residues of a well-formed run at the start of the output.
+fn write_residues(alphabet: u32, packets: &[u32], out: &mut [u8])
+    requires { ⌜ (wellFormed alphabet (now packets) ≡ true) × (length (unpacked (now packets)) ≤ length (now out)) ⌝ }
+    ensures { λ _. ⌜ now (out .exit) ≡ writtenAt 0 (unpacked (now (packets .entry))) (now (out .entry)) ⌝ }
+{
+    let last = packets.len() - 1;
+    let mut at: usize = 0;
+    let mut i: usize = 0;
+    while i < last {
+        let packet = packets[i];
+        packets::decode_codes(packet, &mut out[at..]);
+        at += packets::code_count(packet);
+        i += 1;
+    }
+    packets::decode(packets[last], &mut out[at..]);
+}
+
+// Unpacks a run: writes its residues at the start of the output.
+pub fn unpack(alphabet: u32, packets: &[u32], out: &mut [u8]) -> UnpackAnswer
+    ensures answer { λ r. ⌜ r ≡ unpackAnswer alphabet (now (packets .entry)) (length (now (out .entry))) ⌝ }
+    ensures codes { λ _. ⌜ now (out .exit) ≡ codesAfter alphabet (now (packets .entry)) (now (out .entry)) ⌝ }
+{
+    match unpack_answer(alphabet, packets, out.len()) {
+        UnpackAnswer::Refused(r) => UnpackAnswer::Refused(r),
+        UnpackAnswer::Unpacked {
+            packets: count,
+            residues: total,
+        } => {
+            write_residues(alphabet, packets, out);
+            UnpackAnswer::Unpacked {
+                packets: count,
+                residues: total,
+            }
+        }
+    }
+}
