@@ -1,0 +1,4 @@
+pub mod Lengths
+pub mod Facts
+pub mod Exact
+pub mod Reading

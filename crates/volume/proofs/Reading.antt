@@ -1,0 +1,81 @@
+-- An index that was read: its rules for the calls that go on from it, and how far its tables can lie. Assumes nothing.
+use mathlib.Core.Path.{_≡_, refl, sym, _∙_}
+use mathlib.Core.Bool.{Bool, true, false, cond}
+use mathlib.Core.List.{List, _++_}
+use Prim.Native.Nat.{ℕ, _+_, _-_, _<_}
+use native.Mathlib.Omega.{arith}
+use borrow.Author.Tests.{ltb-true}
+use lib.Dec.{ltb}
+use lib.IntN.{pos, negsuc}
+use Rattle.laws.specs.Rules.{Rule, verdict, AllHold}
+use Rattle.laws.specs.Signed.{toNat}
+use Rattle.laws.proofs.Passing.{passes-with}
+use Rattle.laws.proofs.Rules.{verdict-passes, verdict-append, refused-any}
+use Rattle.fields.specs.Number.{big, signedAt, unsignedAt}
+use Rattle.answers.specs.declared.Refusal.{Refusal}
+use Rattle.volume.specs.declared.Index.{Index}
+use Rattle.volume.specs.declared.IndexAnswer.the-variants.{Read, Refused}
+use Rattle.volume.specs.Index.{titleLength, titleEnd, timestampLength, timestampEnd, sequences, sequenceTable, ambiguityTable, headerTable, indexRules, indexOf, indexAnswer}
+
+not-refused : (x : Index) (r : Refusal) → Refused r ≡ Read x → ⊥
+not-refused x r e = let z : _≡_ {A = ℕ} 0 1 = cc in omega arith
+
+same-refusal : (r s : Refusal) → Refused s ≡ Refused r → s ≡ r
+same-refusal r s e = cc
+
+module _ (index : List ℕ) where
+  -- the index was read: its rules hold, and its numbers are the definition's
+  pub index-read : (x : Index) → indexAnswer index ≡ Read x → AllHold (indexRules index) × (x ≡ indexOf index)
+  index-read x e =
+      let p = passes-with Refused (Read (indexOf index)) (Read x) (not-refused x) (indexRules index) e in
+      let q = p .1 in
+      (p .0, cc)
+
+  module _ {B : Type 0} (told : Refusal → B) (fine : B) (more : List (Rule Refusal)) where
+    -- what is asked after the index decides
+    pub index-first : AllHold (indexRules index) → verdict told fine (indexRules index ++ more) ≡ verdict told fine more
+    index-first h = verdict-append told fine (indexRules index) more ∙ verdict-passes told (verdict told fine more) (indexRules index) h
+
+    -- the index was refused: that decides
+    pub index-refused : (r : Refusal) → indexAnswer index ≡ Refused r → verdict told fine (indexRules index ++ more) ≡ told r
+    index-refused r e =
+        verdict-append told fine (indexRules index) more
+        ∙ refused-any Refused (Read (indexOf index)) (indexRules index) r (same-refusal r) (λ n. not-refused (indexOf index) r (sym n)) e told
+        (verdict told fine more)
+
+-- ---- places
+
+four-bytes : (b : Bool) (n m : ℕ) → ltb n 2147483648 ≡ b → toNat (cond b (pos n) (negsuc m)) < 2147483648
+four-bytes true n m e = ltb-true n 2147483648 e
+four-bytes false n m e = omega arith
+
+-- a size of four bytes
+pub stated-below : (file : List ℕ) (at : ℕ) → toNat (signedAt big 4 file at) < 2147483648
+unfolding signedAt
+stated-below file at = four-bytes _ (unsignedAt big 4 file at) _ refl
+
+title-below : (index : List ℕ) → titleLength index < 2147483648
+unfolding titleLength
+title-below index = stated-below index 8
+
+timestamp-below : (index : List ℕ) → timestampLength index < 2147483648
+unfolding timestampLength
+timestamp-below index = stated-below index (titleEnd index)
+
+sequences-below : (index : List ℕ) → sequences index < 2147483648
+unfolding sequences
+sequences-below index = stated-below index (timestampEnd index)
+
+-- where the tables can lie
+pub record TablesNear (index : List ℕ) : Type 0 where
+  pub number : sequences index < 2147483648
+  pub headersNear : headerTable index < 4294967328
+  pub sequencesNear : sequenceTable index < 17179869184
+  pub ambiguitiesNear : ambiguityTable index < 34359738368
+
+pub tables-near : (index : List ℕ) → TablesNear index
+tables-near index =
+    let a = title-below index in
+    let b = timestamp-below index in
+    let n = sequences-below index in
+    record { number = n; headersNear = omega arith; sequencesNear = omega arith; ambiguitiesNear = omega arith }

@@ -1,0 +1,88 @@
+-- `volume::fixed::check_index`: each part decides where those before it passed. Assumes nothing.
+use mathlib.Core.Path.{sym, _∙_}
+use mathlib.Core.List.{_++_}
+use denote.Ref.{now}
+use Rattle.answers.proofs.Checks.{refused-first, passed-first}
+use Rattle.answers.specs.declared.Checked.the-variants.{Passed, Refused}
+use Rattle.volume.specs.Index.{titleRules, timestampRules, countRules, tableRules, indexRules}
+use borrow.Author.Needs.{needs}
+use Rattle.volume.proofs.fixed.check_index.Statement.{statement}
+use Rattle.volume.proofs.fixed.check_index.Tie as tie
+
+check-title-requires : tie.Need-check-title-requires
+check-title-requires c κs = search needs
+
+enum-known-r : tie.Need-enum-known-r
+enum-known-r c = search needs
+
+returns : tie.Need-returns
+unfolding indexRules
+returns c =
+    let index = now ((c .before .before .before .before .before .args) .index) in
+    sym (refused-first (titleRules index) (timestampRules index ++ countRules index ++ tableRules index) _ _ ((c .before .before .before .check-title) .ensures) ((c .before .r) .given .1) Refused Passed)
+
+enum-told : tie.Need-enum-told
+enum-told c = search needs
+
+check-timestamp-requires : tie.Need-check-timestamp-requires
+check-timestamp-requires c κs = search needs
+
+enum-known-r-2 : tie.Need-enum-known-r-2
+enum-known-r-2 c = search needs
+
+returns-2 : tie.Need-returns-2
+unfolding indexRules
+returns-2 c =
+    let index = now ((c .before .before .before .before .before .before .before .before .args) .index) in
+    sym (passed-first (titleRules index) (timestampRules index ++ countRules index ++ tableRules index) _ ((c .before .before .before .before .before .before .check-title) .ensures) ((c .before .before .before .before .enum-told) .given .1) Refused Passed
+    ∙ refused-first (timestampRules index) (countRules index ++ tableRules index) _ _ ((c .before .before .before .check-timestamp) .ensures) ((c .before .r2) .given .1) Refused Passed)
+
+enum-told-2 : tie.Need-enum-told-2
+enum-told-2 c = search needs
+
+check-counts-requires : tie.Need-check-counts-requires
+check-counts-requires c κs = search needs
+
+enum-known-r-3 : tie.Need-enum-known-r-3
+enum-known-r-3 c = search needs
+
+returns-3 : tie.Need-returns-3
+unfolding indexRules
+returns-3 c =
+    let index = now ((c .before .before .before .before .before .before .before .before .before .before .before .args) .index) in
+    sym (passed-first (titleRules index) (timestampRules index ++ countRules index ++ tableRules index) _ ((c .before .before .before .before .before .before .before .before .before .check-title) .ensures) ((c .before .before .before .before .before .before .before .enum-told) .given .1) Refused Passed
+    ∙ passed-first (timestampRules index) (countRules index ++ tableRules index) _ ((c .before .before .before .before .before .before .check-timestamp) .ensures) ((c .before .before .before .before .enum-told2) .given .1) Refused Passed
+    ∙ refused-first (countRules index) (tableRules index) _ _ ((c .before .before .before .check-counts) .ensures) ((c .before .r3) .given .1) Refused Passed)
+
+enum-told-3 : tie.Need-enum-told-3
+enum-told-3 c = search needs
+
+check-tables-requires : tie.Need-check-tables-requires
+check-tables-requires c κs = search needs
+
+returns-4 : tie.Need-returns-4
+unfolding indexRules
+returns-4 c =
+    let index = now ((c .before .before .before .before .before .before .before .before .before .before .before .args) .index) in
+    (c .check-tables) .ensures ∙ sym (passed-first (titleRules index) (timestampRules index ++ countRules index ++ tableRules index) _ ((c .before .before .before .before .before .before .before .before .before .check-title) .ensures) ((c .before .before .before .before .before .before .before .enum-told) .given .1) Refused Passed
+    ∙ passed-first (timestampRules index) (countRules index ++ tableRules index) _ ((c .before .before .before .before .before .before .check-timestamp) .ensures) ((c .before .before .before .before .enum-told2) .given .1) Refused Passed
+    ∙ passed-first (countRules index) (tableRules index) _ ((c .before .before .before .check-counts) .ensures) ((c .before .enum-told3) .given .1) Refused Passed)
+
+pub check-index-spec : {M : Type 1} → statement M
+check-index-spec =
+    tie.close
+    (tie.spec
+    check-title-requires
+    enum-known-r
+    returns
+    enum-told
+    check-timestamp-requires
+    enum-known-r-2
+    returns-2
+    enum-told-2
+    check-counts-requires
+    enum-known-r-3
+    returns-3
+    enum-told-3
+    check-tables-requires
+    returns-4)

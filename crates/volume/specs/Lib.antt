@@ -1,0 +1,4 @@
+pub mod Index
+pub mod Tables
+pub mod Volume
+pub mod Holds

@@ -1,0 +1,288 @@
+// The tables of offsets and the lengths of the sequences, and their rules.
+use super::fixed::ambiguity_table;
+use super::fixed::is_protein;
+use super::fixed::longest_length;
+use super::fixed::natural_at;
+use super::fixed::residue_count;
+use super::fixed::sequence_count;
+use super::fixed::sequence_table;
+use super::fixed::states_at;
+use super::fixed::timestamp_end;
+use answers::Checked;
+use answers::Refusal;
+ghost use mathlib.Core.Path.{_≡_};
+ghost use mathlib.Core.List.{_++_};
+ghost use Prim.Native.Nat.{_-_, _≤_, _<_, max};
+ghost use lib.IntN.{pos};
+ghost use Rattle.laws.specs.Places.{every};
+ghost use Rattle.laws.specs.Signed.{toNat, eqZ};
+ghost use Rattle.answers.specs.Limits.{checkedBy};
+ghost use Rattle.volume.specs.Index.{sequences};
+ghost use Rattle.volume.specs.Tables.{offsetAt, notBelow, above, between, headerOffsetRules, proteinOffsetRules, dnaOffsetRules, sequenceOffsetRules, offsetRules, proteinLength, twoBitLength, dnaLength, proteinSeparatorRules, separatorRules, statedRules, totalsOf, totalRules};
+
+// The first offset of a nucleotide file.
+const FIRST_NUCLEOTIDE_OFFSET: usize = 0;
+
+// The difference of two places; 0 where it would be negative.
+pub(crate) fn minus(a: usize, b: usize) -> usize
+    ensures { λ r. ⌜ r ≡ a - b ⌝ }
+{
+    if a < b {
+        return 0;
+    }
+    a - b
+}
+
+// The larger of two lengths.
+fn larger(a: usize, b: usize) -> usize
+    ensures { λ r. ⌜ r ≡ max a b ⌝ }
+{
+    if a < b {
+        return b;
+    }
+    a
+}
+
+// Offset k of the table at a place.
+fn offset(index: &[u8], table: usize, k: usize) -> i32
+    requires { ⌜ (table < 34359738368) × (k ≤ 2147483648) ⌝ }
+    ensures { λ r. ⌜ r ≡ offsetAt (now (index .entry)) table k ⌝ }
+{
+    fields::be_i32(index, table + 4 * k)
+}
+
+// The place that offset k of the table at a place states.
+pub(crate) fn place(index: &[u8], table: usize, k: usize) -> usize
+    requires { ⌜ (table < 34359738368) × (k ≤ 2147483648) ⌝ }
+    ensures value { λ r. ⌜ r ≡ toNat (offsetAt (now (index .entry)) table k) ⌝ }
+    ensures small { λ r. ⌜ r < 2147483648 ⌝ }
+{
+    natural_at(index, table + 4 * k)
+}
+
+// Whether offset k of the table at a place is a given size.
+fn offset_is(index: &[u8], table: usize, k: usize, size: usize) -> bool
+    requires { ⌜ (table < 34359738368) × (k ≤ 2147483648) ⌝ }
+    ensures { λ r. ⌜ r ≡ eqZ (offsetAt (now (index .entry)) table k) (pos size) ⌝ }
+{
+    states_at(index, table + 4 * k, size)
+}
+
+// Whether none of n + 1 offsets is below the one before.
+fn never_falls(index: &[u8], table: usize, n: usize) -> bool
+    requires { ⌜ (table < 34359738368) × (n < 2147483648) ⌝ }
+    ensures { λ r. ⌜ r ≡ every (notBelow (now (index .entry)) table) n ⌝ }
+{
+    let mut low = offset(index, table, 0);
+    let mut i = 0;
+    while i < n {
+        let next = offset(index, table, i + 1);
+        if next < low {
+            return false;
+        }
+        low = next;
+        i += 1;
+    }
+    true
+}
+
+// Whether each of n + 1 offsets is above the one before.
+fn rises(index: &[u8], table: usize, n: usize) -> bool
+    requires { ⌜ (table < 34359738368) × (n < 2147483648) ⌝ }
+    ensures { λ r. ⌜ r ≡ every (above (now (index .entry)) table) n ⌝ }
+{
+    let mut low = offset(index, table, 0);
+    let mut i = 0;
+    while i < n {
+        let next = offset(index, table, i + 1);
+        if next <= low {
+            return false;
+        }
+        low = next;
+        i += 1;
+    }
+    true
+}
+
+// Whether S[k] < A[k] <= S[k+1] for each k below n, for the tables at two places.
+fn between(index: &[u8], s: usize, a: usize, n: usize) -> bool
+    requires { ⌜ (s < 34359738368) × (a < 34359738368) × (n < 2147483648) ⌝ }
+    ensures { λ r. ⌜ r ≡ every (between (now (index .entry)) s a) n ⌝ }
+{
+    let mut low = offset(index, s, 0);
+    let mut i = 0;
+    while i < n {
+        let middle = offset(index, a, i);
+        if middle <= low {
+            return false;
+        }
+        let next = offset(index, s, i + 1);
+        if next < middle {
+            return false;
+        }
+        low = next;
+        i += 1;
+    }
+    true
+}
+
+// The header offsets.
+fn check_header_offsets(index: &[u8], header: &[u8]) -> Checked
+    ensures { λ r. ⌜ r ≡ checkedBy (headerOffsetRules (now (index .entry)) (now (header .entry))) ⌝ }
+{
+    let table = timestamp_end(index) + 16;
+    let n = sequence_count(index);
+    if !offset_is(index, table, 0, 0) {
+        return Checked::Refused(Refusal::BadOffsets);
+    }
+    if !never_falls(index, table, n) {
+        return Checked::Refused(Refusal::BadOffsets);
+    }
+    if !offset_is(index, table, n, header.len()) {
+        return Checked::Refused(Refusal::BadOffsets);
+    }
+    Checked::Passed
+}
+
+// The sequence offsets of a protein volume.
+fn check_protein_offsets(index: &[u8], sequence: &[u8]) -> Checked
+    ensures { λ r. ⌜ r ≡ checkedBy (proteinOffsetRules (now (index .entry)) (now (sequence .entry))) ⌝ }
+{
+    let table = sequence_table(index);
+    let n = sequence_count(index);
+    if !offset_is(index, table, 0, 1) {
+        return Checked::Refused(Refusal::BadOffsets);
+    }
+    if !rises(index, table, n) {
+        return Checked::Refused(Refusal::BadOffsets);
+    }
+    if !offset_is(index, table, n, sequence.len()) {
+        return Checked::Refused(Refusal::BadOffsets);
+    }
+    Checked::Passed
+}
+
+// The sequence and ambiguity offsets of a DNA volume.
+fn check_dna_offsets(index: &[u8], sequence: &[u8]) -> Checked
+    ensures { λ r. ⌜ r ≡ checkedBy (dnaOffsetRules (now (index .entry)) (now (sequence .entry))) ⌝ }
+{
+    let s = sequence_table(index);
+    let a = ambiguity_table(index);
+    let n = sequence_count(index);
+    if !offset_is(index, s, 0, FIRST_NUCLEOTIDE_OFFSET) {
+        return Checked::Refused(Refusal::BadOffsets);
+    }
+    if !between(index, s, a, n) {
+        return Checked::Refused(Refusal::BadOffsets);
+    }
+    if !offset_is(index, s, n, sequence.len()) {
+        return Checked::Refused(Refusal::BadOffsets);
+    }
+    if !offset_is(index, a, n, sequence.len()) {
+        return Checked::Refused(Refusal::BadOffsets);
+    }
+    Checked::Passed
+}
+
+fn check_sequence_offsets(index: &[u8], sequence: &[u8]) -> Checked
+    ensures { λ r. ⌜ r ≡ checkedBy (sequenceOffsetRules (now (index .entry)) (now (sequence .entry))) ⌝ }
+{
+    if is_protein(index) {
+        return check_protein_offsets(index, sequence);
+    }
+    check_dna_offsets(index, sequence)
+}
+
+// All offsets, 7.
+pub(crate) fn check_offsets(index: &[u8], sequence: &[u8], header: &[u8]) -> Checked
+    ensures { λ r. ⌜ r ≡ checkedBy (offsetRules (now (index .entry)) (now (sequence .entry)) (now (header .entry))) ⌝ }
+{
+    if let Checked::Refused(r) = check_header_offsets(index, header) {
+        return Checked::Refused(r);
+    }
+    check_sequence_offsets(index, sequence)
+}
+
+// A sum of lengths and a largest length against the stated ones, 9.
+fn check_stated(index: &[u8], sum: usize, largest: usize) -> Checked
+    ensures { λ r. ⌜ r ≡ checkedBy (statedRules (now (index .entry)) sum largest) ⌝ }
+{
+    if sum != residue_count(index) {
+        return Checked::Refused(Refusal::WrongTotals);
+    }
+    if largest != longest_length(index) {
+        return Checked::Refused(Refusal::WrongTotals);
+    }
+    Checked::Passed
+}
+
+// The separators and the lengths of a protein volume, 8 and 9.
+fn check_protein_lengths(index: &[u8], sequence: &[u8]) -> Checked
+    requires { ⌜ sequences (now index) ≤ 134217728 ⌝ }
+    ensures { λ r. ⌜ r ≡ checkedBy (proteinSeparatorRules (now (index .entry)) (now (sequence .entry)) ++ totalsOf (now (index .entry)) (proteinLength (now (index .entry)))) ⌝ }
+{
+    if fields::byte(sequence, 0) != 0 {
+        return Checked::Refused(Refusal::BadSeparator);
+    }
+    let table = sequence_table(index);
+    let n = sequence_count(index);
+    let mut low = place(index, table, 0);
+    let mut sum: usize = 0;
+    let mut largest: usize = 0;
+    let mut i = 0;
+    while i < n {
+        let next = place(index, table, i + 1);
+        let end = minus(next, 1);
+        if fields::byte(sequence, end) != 0 {
+            return Checked::Refused(Refusal::BadSeparator);
+        }
+        let len = minus(end, low);
+        sum += len;
+        largest = larger(largest, len);
+        low = next;
+        i += 1;
+    }
+    check_stated(index, sum, largest)
+}
+
+// The length of the two-bit bytes from a start up to an end.
+pub(crate) fn two_bit_length(sequence: &[u8], start: usize, end: usize) -> usize
+    requires { ⌜ end < 2147483648 ⌝ }
+    ensures value { λ r. ⌜ r ≡ twoBitLength (now (sequence .entry)) start end ⌝ }
+    ensures small { λ r. ⌜ r < 8589934592 ⌝ }
+{
+    4 * minus(minus(end, start), 1) + (fields::byte(sequence, minus(end, 1)) % 4) as usize
+}
+
+// The lengths of a DNA volume, 9.
+fn check_dna_lengths(index: &[u8], sequence: &[u8]) -> Checked
+    requires { ⌜ sequences (now index) ≤ 134217728 ⌝ }
+    ensures { λ r. ⌜ r ≡ checkedBy (totalsOf (now (index .entry)) (dnaLength (now (index .entry)) (now (sequence .entry)))) ⌝ }
+{
+    let s = sequence_table(index);
+    let a = ambiguity_table(index);
+    let n = sequence_count(index);
+    let mut sum: usize = 0;
+    let mut largest: usize = 0;
+    let mut i = 0;
+    while i < n {
+        let start = place(index, s, i);
+        let end = place(index, a, i);
+        let len = two_bit_length(sequence, start, end);
+        sum += len;
+        largest = larger(largest, len);
+        i += 1;
+    }
+    check_stated(index, sum, largest)
+}
+
+// Separators and totals, 8 and 9.
+pub(crate) fn check_lengths(index: &[u8], sequence: &[u8]) -> Checked
+    requires { ⌜ sequences (now index) ≤ 134217728 ⌝ }
+    ensures { λ r. ⌜ r ≡ checkedBy (separatorRules (now (index .entry)) (now (sequence .entry)) ++ totalRules (now (index .entry)) (now (sequence .entry))) ⌝ }
+{
+    if is_protein(index) {
+        return check_protein_lengths(index, sequence);
+    }
+    check_dna_lengths(index, sequence)
+}
