@@ -1,0 +1,255 @@
+-- Integers, texts and their bytes: where they lie, and what number they are. Assumes nothing.
+use mathlib.Core.Path.{_≡_, refl, sym, subst, ap, _∙_}
+use mathlib.Core.List.{List}
+use mathlib.Core.Bool.{Bool, true, false, cond, _&&_}
+use Prim.Native.Nat.{ℕ, zero, suc, _+_, _-_, _*_, _/_, _^_, _≤_, _<_}
+use lib.Pow.{pow-add}
+use native.Mathlib.Nat.{mul-suc, pow-suc, pow-le-pow-right, mul-le-mul-left, lt-of-lt-of-le}
+use native.Mathlib.Omega.{arith}
+use native.Mathlib.Numerals.{add-one}
+use borrow.Author.Tests.{lt-ltb, le-ltb, le-leb, lt-leb, eq-eqb, ne-eqb, ltb-true, ltb-false, leb-true}
+use lib.ListN.{length, getD, take, drop, length-drop, List·getD-eq-default}
+use lib.Seq.{length-take-le}
+use lib.Dec.{ltb, leb}
+use lib.IntN.{ℤ, pos, negsuc}
+use mir.Syntax.{w64}
+use mir.Val.{toZ}
+use mir.ValLaws.{toZ-pos, toZ-neg}
+use Rattle.laws.specs.Digits.{value, allBelow}
+use Rattle.laws.proofs.Tests.{both-pass, bool-cases}
+use Rattle.laws.proofs.Digits.{below-all, below-take, below-drop, value-below}
+use Rattle.laws.proofs.Choices.{cond-elim}
+use Rattle.fields.specs.Number.{signed}
+use Rattle.answers.specs.declared.Refusal.the-variants.{BadHeader}
+use Rattle.elements.specs.declared.Span.{Span}
+use Rattle.elements.specs.declared.SpanAnswer.{SpanAnswer}
+use Rattle.elements.specs.declared.SpanAnswer.the-variants as S
+use Rattle.elements.specs.declared.IntegerAnswer.{IntegerAnswer}
+use Rattle.elements.specs.declared.IntegerAnswer.the-variants as I
+use Rattle.elements.specs.Grammar.{inRange}
+use Rattle.elements.specs.Parts.{span, bytesOf, partAt, integerAllowed, integerPart, longPart, textPart, Within, integerIn, integerAt, textAt}
+use Rattle.elements.specs.Statement.{IntegerBytes}
+
+pub bytes-length : (s : List ℕ) (at n : ℕ) → at + n ≤ length s → length (bytesOf s at n) ≡ n
+bytes-length s at n h = length-take-le n (drop at s) (rw length-drop (omega arith))
+
+-- ---- allowed integers
+
+pub allowed-is : (bytes : List ℕ) (n : ℕ) → length bytes ≡ n → (leb 1 n && leb n 8) ≡ integerAllowed bytes
+unfolding integerAllowed
+allowed-is bytes n e = rw e
+
+pub allowed-size : (bytes : List ℕ) → integerAllowed bytes ≡ true → (1 ≤ length bytes) × (length bytes ≤ 8)
+unfolding integerAllowed
+allowed-size bytes e =
+    let p = both-pass (leb 1 (length bytes)) (leb (length bytes) 8) e in
+    (leb-true 1 (length bytes) (p .0), leb-true (length bytes) 8 (p .1))
+
+pub allowed-bytes : (bytes : List ℕ) → integerAllowed bytes ≡ true → IntegerBytes bytes
+allowed-bytes bytes e = let p = allowed-size bytes e in record { some = p .0; few = p .1 }
+
+pub bytes-allowed : (bytes : List ℕ) → IntegerBytes bytes → integerAllowed bytes ≡ true
+unfolding integerAllowed
+bytes-allowed bytes b = rw (le-leb _ _ (b .some), le-leb _ _ (b .few))
+
+-- ---- where the bytes lie: past `lo`, and within s
+
+abbrev pub Past : List ℕ → ℕ → SpanAnswer → Type 0
+Past s lo (S.Part t) = (lo < t .start) × (t .start + t .len ≤ length s)
+Past s lo (S.Refused r) = Unit {0}
+
+part-past : (s : List ℕ) (lo at n : ℕ) → lo < at → Past s lo (partAt s at n)
+unfolding partAt
+part-past s lo at n h = cond-elim (Past s lo) (leb (at + n) (length s)) (λ e. (h, leb-true _ _ e)) (λ e. tt)
+
+-- an integer that was read: its length byte, its start, its size
+pub record IntegerRead (s : List ℕ) (at : ℕ) (t : Span) : Type 0 where
+  pub there : at < length s
+  pub starts : t .start ≡ at + 1
+  pub sized : t .len ≡ getD s at 0
+  pub some : 1 ≤ t .len
+  pub few : t .len ≤ 8
+  pub fits : t .start + t .len ≤ length s
+  pub allowed : integerAllowed (bytesOf s (at + 1) (getD s at 0)) ≡ true
+
+abbrev Reads : List ℕ → ℕ → SpanAnswer → Type 0
+Reads s at (S.Part t) = IntegerRead s at t
+Reads s at (S.Refused r) = Unit {0}
+
+integer-reads : (s : List ℕ) (at : ℕ) → Reads s at (integerPart s at)
+unfolding integerPart
+integer-reads s at =
+    let n = getD s at 0 in
+    cond-elim (Reads s at) (ltb at (length s) && leb (at + 1 + n) (length s) && integerAllowed (bytesOf s (at + 1) n))
+    (λ e.
+    let p = both-pass (ltb at (length s) && leb (at + 1 + n) (length s)) (integerAllowed (bytesOf s (at + 1) n)) e in
+    let q = both-pass (ltb at (length s)) (leb (at + 1 + n) (length s)) (p .0) in
+    let f : at + 1 + n ≤ length s = leb-true _ _ (q .1) in
+    let l : length (bytesOf s (at + 1) n) ≡ n = bytes-length s (at + 1) n f in
+    let a = allowed-size (bytesOf s (at + 1) n) (p .1) in
+    record { there = ltb-true _ _ (q .0); starts = refl; sized = refl; some = rw l at (a .0); few = rw l at (a .1); fits = f; allowed = p .1 })
+    (λ e. tt)
+
+pub integer-read : (s : List ℕ) (at : ℕ) (t : Span) → integerPart s at ≡ S.Part t → IntegerRead s at t
+integer-read s at t e = subst (λ (x : SpanAnswer). Reads s at x) e (integer-reads s at)
+
+read-past : (s : List ℕ) (at : ℕ) (x : SpanAnswer) → Reads s at x → Past s at x
+read-past s at (S.Part t) r = let e = r .starts in (omega arith, r .fits)
+read-past s at (S.Refused e) r = tt
+
+pub integer-past : (s : List ℕ) (at : ℕ) → Past s at (integerPart s at)
+integer-past s at = read-past s at (integerPart s at) (integer-reads s at)
+
+long-past : (s : List ℕ) (lo at k : ℕ) → lo < at → Past s lo (longPart s at k)
+unfolding longPart
+long-past s lo at k h =
+    cond-elim (Past s lo) (leb (at + k) (length s)) (λ e. part-past s lo (at + k) (value 8 0 (bytesOf s at k)) (omega arith)) (λ e. tt)
+
+pub text-past : (s : List ℕ) (at : ℕ) → Past s at (textPart s at)
+unfolding textPart
+text-past s at =
+    cond-elim (Past s at) (ltb at (length s))
+    (λ e. cond-elim (Past s at) (ltb (getD s at 0) 128) (λ e. part-past s at (at + 1) (getD s at 0) (omega arith))
+    (λ e. cond-elim (Past s at) (inRange 129 132 (getD s at 0)) (λ e. long-past s at (at + 1) (getD s at 0 - 128) (omega arith)) (λ e. tt)))
+    (λ e. tt)
+
+past-within : (s : List ℕ) (lo : ℕ) (x : SpanAnswer) → Past s lo x → Within s x
+past-within s lo (S.Part t) p = p .1
+past-within s lo (S.Refused r) p = tt
+
+pub integer-within : (s : List ℕ) (at : ℕ) (x : SpanAnswer) → x ≡ integerPart s at → Within s x
+integer-within s at x e = rw e (past-within s at (integerPart s at) (integer-past s at))
+
+pub text-within : (s : List ℕ) (at : ℕ) (x : SpanAnswer) → x ≡ textPart s at → Within s x
+text-within s at x e = rw e (past-within s at (textPart s at) (text-past s at))
+
+pub range-parts : (low high b : ℕ) → inRange low high b ≡ true → (low ≤ b) × (b ≤ high)
+range-parts low high b e = let p = both-pass (leb low b) (leb b high) e in (leb-true low b (p .0), leb-true b high (p .1))
+
+-- ---- numbers of at most 8 bytes
+
+-- i digits, i below 8, leave room for one more
+pub room : (i x : ℕ) → i < 8 → x < 2 ^ (8 * i) → x < 72057594037927936
+room i x h l = lt-of-lt-of-le l (pow-le-pow-right {n = 2} (omega arith) {j = 56} (omega arith))
+
+pub full : (i x : ℕ) → i < 8 → x + 1 ≡ 256 ^ i → x < 72057594037927936
+full i x h e = let p : 256 ^ i ≤ 256 ^ 7 = pow-le-pow-right {n = 256} (omega arith) {i = i} {j = 7} (omega arith) in omega arith
+
+pub full-more : (i x : ℕ) → x + 1 ≡ 256 ^ i → x * 256 + 255 + 1 ≡ 256 ^ (i + 1)
+full-more i x e = let p : 256 ^ (i + 1) ≡ 256 ^ i * 256 = ap (λ (k : ℕ). 256 ^ k) (add-one i) ∙ pow-suc 256 i in omega arith
+
+even : (n : ℕ) → 1 ≤ n → (k : ℕ) × (256 ^ n ≡ k * 256)
+even n h = let e : n ≡ suc (n - 1) = omega arith in (256 ^ (n - 1), ap (λ (x : ℕ). 256 ^ x) e ∙ pow-suc 256 (n - 1))
+
+-- two's complement of n bytes: the upper half of the numbers are the negative ones
+module _ (n x most : ℕ) (some : 1 ≤ n) (m : most + 1 ≡ 256 ^ n) (top : most ≤ 18446744073709551615) where
+  half : 256 ^ n / 2 ≡ most / 2 + 1
+  half = let k = even n some in omega arith
+
+  pub signed-low : x ≤ most / 2 → toZ w64 x ≡ signed n x
+  signed-low h =
+      let l : x < 256 ^ n / 2 = omega (arith, half) in
+      toZ-pos w64 x (omega arith) ∙ rw (lt-ltb _ _ l)
+
+  pub signed-high : most / 2 < x → x ≤ most → toZ w64 (18446744073709551615 - (most - x)) ≡ signed n x
+  signed-high h u =
+      let g : 256 ^ n / 2 ≤ x = omega (arith, half) in
+      let y : 256 ^ n - suc x ≡ most - x = omega arith in
+      let k : most - x < 9223372036854775808 = omega arith in
+      let z : 18446744073709551615 - (most - x) ≡ 18446744073709551616 - suc (most - x) = omega arith in
+      ap (toZ w64) z ∙ toZ-neg w64 (most - x) k ∙ rw (le-ltb _ _ g, y)
+
+-- ---- what the code's tests show
+
+pub part-fits : (s : List ℕ) (at n : ℕ) → at ≤ length s → n ≤ length s - at → S.Part (span at n) ≡ partAt s at n
+unfolding partAt
+part-fits s at n h l = let k : at + n ≤ length s = omega arith in rw (le-leb _ _ k)
+
+pub part-short : (s : List ℕ) (at n : ℕ) → length s - at < n → S.Refused BadHeader ≡ partAt s at n
+unfolding partAt
+part-short s at n l = let k : length s < at + n = omega arith in rw (lt-leb _ _ k)
+
+pub integer-none : (s : List ℕ) (at : ℕ) → length s ≤ at → S.Refused BadHeader ≡ integerPart s at
+unfolding integerPart
+integer-none s at h = rw (le-ltb _ _ h)
+
+module _ (s : List ℕ) (at n : ℕ) (h : at < length s) (e : n ≡ getD s at 0) where
+  pub integer-short : length s - (at + 1) < n → S.Refused BadHeader ≡ integerPart s at
+  unfolding integerPart
+  integer-short l = let k : length s < at + 1 + getD s at 0 = omega arith in rw (lt-ltb _ _ h, lt-leb _ _ k)
+
+  pub integer-tested : (b : Bool) → n ≤ length s - (at + 1) → b ≡ integerAllowed (bytesOf s (at + 1) n)
+      → cond b (S.Part (span (at + 1) n)) (S.Refused BadHeader) ≡ integerPart s at
+  unfolding integerPart
+  integer-tested b l a =
+      let k : at + 1 + getD s at 0 ≤ length s = omega arith in
+      rw (lt-ltb _ _ h, le-leb _ _ k, ← e, ← a)
+
+pub long-short : (s : List ℕ) (at k : ℕ) → length s - at < k → S.Refused BadHeader ≡ longPart s at k
+unfolding longPart
+long-short s at k l = let g : length s < at + k = omega arith in rw (lt-leb _ _ g)
+
+pub long-fits : (s : List ℕ) (at k n : ℕ) (r : SpanAnswer) → at ≤ length s → k ≤ length s - at → n ≡ value 8 0 (bytesOf s at k) → r ≡ partAt s (at + k) n → r ≡ longPart s at k
+unfolding longPart
+long-fits s at k n r h l e p = let g : at + k ≤ length s = omega arith in rw (le-leb _ _ g) (p ∙ ap (partAt s (at + k)) e)
+
+pub text-none : (s : List ℕ) (at : ℕ) → length s ≤ at → S.Refused BadHeader ≡ textPart s at
+unfolding textPart
+text-none s at h = rw (le-ltb _ _ h)
+
+module _ (s : List ℕ) (at b : ℕ) (h : at < length s) (e : b ≡ getD s at 0) where
+  pub text-short : (r : SpanAnswer) → b < 128 → r ≡ partAt s (at + 1) b → r ≡ textPart s at
+  unfolding textPart
+  text-short r l p = rw (lt-ltb _ _ h, ← e, lt-ltb _ _ l) p
+
+  pub text-wrong : 128 ≤ b → inRange 129 132 b ≡ false → S.Refused BadHeader ≡ textPart s at
+  unfolding textPart
+  text-wrong l p = rw (lt-ltb _ _ h, ← e, le-ltb _ _ l, p)
+
+  pub text-long : (r : SpanAnswer) → 128 ≤ b → inRange 129 132 b ≡ true → r ≡ longPart s (at + 1) (b - 128) → r ≡ textPart s at
+  unfolding textPart
+  text-long r l p q = rw (lt-ltb _ _ h, ← e, le-ltb _ _ l, p) q
+
+pub within-part : (s : List ℕ) (x : SpanAnswer) (t : Span) → Within s x → x ≡ S.Part t → t .start + t .len ≤ length s
+within-part s x t w e = subst (λ (y : SpanAnswer). Within s y) e w
+
+-- ---- the integer element and the text element
+
+pub text-other : (s : List ℕ) (at b : ℕ) → b ≡ getD s at 0 → (b ≡ 26 → ⊥) → S.Refused BadHeader ≡ textAt s at
+unfolding textAt
+text-other s at b e n = rw (← e, ne-eqb _ _ n)
+
+pub text-is : (s : List ℕ) (at b : ℕ) (r : SpanAnswer) → b ≡ getD s at 0 → b ≡ 26 → r ≡ textPart s (at + 1) → r ≡ textAt s at
+unfolding textAt
+text-is s at b r e q p = rw (← e, eq-eqb _ _ q) p
+
+pub integer-other : (s : List ℕ) (at b : ℕ) → b ≡ getD s at 0 → (b ≡ 2 → ⊥) → I.Refused BadHeader ≡ integerAt s at
+unfolding integerAt
+integer-other s at b e n = rw (← e, ne-eqb _ _ n)
+
+pub integer-is : (s : List ℕ) (at b : ℕ) (x : SpanAnswer) (r : IntegerAnswer) → b ≡ getD s at 0 → b ≡ 2 → x ≡ integerPart s (at + 1) → r ≡ integerIn s x → r ≡ integerAt s at
+unfolding integerAt
+integer-is s at b x r e q p u = rw (← e, eq-eqb _ _ q, ← p) u
+
+-- a byte that is not 0 stands within the file
+pub inside-file : (s : List ℕ) (at b : ℕ) → b ≡ getD s at 0 → (b ≡ 0 → ⊥) → at < length s
+inside-file s at b e n = bool-cases (ltb at (length s)) (λ t. ltb-true _ _ t) (λ f. absurd (n (e ∙ List·getD-eq-default s 0 (ltb-false _ _ f))))
+
+byte-power : (n : ℕ) → 2 ^ (8 * n) ≡ 256 ^ n
+byte-power zero = refl
+byte-power (suc n) =
+    let e : 8 * suc n ≡ 8 * n + 8 = mul-suc 8 n in
+    ap (λ (k : ℕ). 2 ^ k) e ∙ pow-add 2 (8 * n) 8 ∙ ap (λ (k : ℕ). k * 256) (byte-power n) ∙ sym (pow-suc 256 n)
+
+-- a number below the largest of as many bytes
+pub value-small : (s : List ℕ) (at n x most : ℕ) → ((i : ℕ) → getD s i 0 < 256) → at + n ≤ length s → x ≡ value 8 0 (bytesOf s at n) → most + 1 ≡ 256 ^ n → x ≤ most
+value-small s at n x most small h e m =
+    let l : length (bytesOf s at n) ≡ n = bytes-length s at n h in
+    let b : allBelow 256 (bytesOf s at n) ≡ true = below-take 256 n (drop at s) (below-drop 256 at s (below-all 256 s (λ i _. small i))) in
+    let v : value 8 0 (bytesOf s at n) < 2 ^ (8 * length (bytesOf s at n)) = value-below 8 (bytesOf s at n) b in
+    let w : 2 ^ (8 * n) ≡ 256 ^ n = byte-power n in
+    let u : value 8 0 (bytesOf s at n) < 2 ^ (8 * n) = rw l at v in
+    omega arith
+
+pub most-fits : (n most : ℕ) → n ≤ 8 → most + 1 ≡ 256 ^ n → most ≤ 18446744073709551615
+most-fits n most h e = let p : 256 ^ n ≤ 256 ^ 8 = pow-le-pow-right {n = 256} (omega arith) {i = n} {j = 8} h in omega arith

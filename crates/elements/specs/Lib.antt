@@ -1,0 +1,7 @@
+pub mod Grammar
+pub mod Parts
+pub mod Reading
+pub mod Answers
+pub mod Statement
+pub mod DefLines
+pub mod Written

@@ -1,0 +1,194 @@
+-- Labels: a sequence's own offsets, the rules before them, and that a label's part lies within its file. Assumes nothing.
+use mathlib.Core.Path.{_≡_, refl, sym, subst, ap, _∙_}
+use mathlib.Core.List.{List, []}
+use mathlib.Core.Bool.{Bool, true, false}
+use Prim.Native.Nat.{ℕ, _+_, _-_, _≤_, _<_}
+use native.Mathlib.Nat.{add-sub-cancel-left}
+use native.Mathlib.Omega.{arith}
+use borrow.Author.Tests.{lt-ltb, le-ltb, le-leb, lt-leb, ltb-true, leb-true}
+use lib.Dec.{ltb, leb}
+use lib.IntN.{ℤ, pos, negsuc}
+use lib.ListN.{length, take, drop}
+use lib.Signed.{ltZ, leZ, nonNeg}
+use Rattle.laws.specs.Rules.{Rule, AllHold, verdict}
+use Rattle.laws.specs.Signed.{toNat}
+use Rattle.laws.proofs.Tests.{never}
+use Rattle.laws.proofs.Choices.{cond-elim}
+use Rattle.laws.proofs.Passing.{passes-with}
+use Rattle.laws.proofs.Signed as signed
+use Rattle.answers.specs.Limits.{checkedBy}
+use Rattle.answers.specs.declared.Refusal.{Refusal}
+use Rattle.answers.specs.declared.Refusal.the-variants.{BadOffsets, NoSuchSequence, TooLarge}
+use Rattle.answers.specs.declared.Checked.{Checked}
+use Rattle.answers.specs.declared.Checked.the-variants as C
+use Rattle.answers.proofs.Alone.{refused-alone, passed-alone}
+use Rattle.elements.specs.declared.Span.{Span}
+use Rattle.headers.specs.declared.FirstAnswer.{FirstAnswer}
+use Rattle.headers.specs.declared.FirstAnswer.the-variants as G
+use Rattle.headers.specs.Calls.{firstOf}
+use Rattle.headers.proofs.Within.{first-within}
+use Rattle.volume.specs.declared.Index.{Index}
+use Rattle.volume.specs.declared.IndexAnswer.{IndexAnswer}
+use Rattle.volume.specs.declared.IndexAnswer.the-variants as X
+use Rattle.volume.specs.Index.{titleLength, sequences, headerTable, indexRules, indexOf, indexAnswer}
+use Rattle.volume.specs.Tables.{offsetAt}
+use Rattle.volume.proofs.Facts.{index-parts, few-sequences}
+use Rattle.labels.specs.declared.LabelAnswer.{LabelAnswer}
+use Rattle.labels.specs.declared.LabelAnswer.the-variants.{InHeader, InIndex, Refused}
+use Rattle.labels.specs.Label.{recordLabel, ownRules, offsetsLabel, numberLabel, labelOf, labelPart}
+
+-- ---- a sequence's own offsets; x and y are the machine's numbers, low and high what they are
+
+negative : (z : ℤ) → ltZ z (pos 0) ≡ true → nonNeg z ≡ false
+negative (pos n) e = absurd (let l = ltb-true n 0 e in let z : ⊥ = omega arith in z)
+negative (negsuc n) e = refl
+
+natural : (z : ℤ) → ltZ z (pos 0) ≡ false → nonNeg z ≡ true
+natural (pos n) e = refl
+natural (negsuc n) e = never (sym e)
+
+past-size : (z : ℤ) (size : ℕ) → size < toNat z → leZ z (pos size) ≡ false
+past-size (pos n) size h = lt-leb n size h
+past-size (negsuc n) size h = absurd (let z : ⊥ = omega arith in z)
+
+within-size : (z : ℤ) (size : ℕ) → toNat z ≤ size → leZ z (pos size) ≡ true
+within-size (pos n) size h = le-leb n size h
+within-size (negsuc n) size h = refl
+
+module _ (size : ℕ) {x y low high : ℤ} (p : x ≡ low) (q : y ≡ high) where
+  pub own-negative : ltZ x (pos 0) ≡ true → C.Refused BadOffsets ≡ checkedBy (ownRules size low high)
+  own-negative t = rw (negative low (rw p at t))
+
+  module _ (t : ltZ x (pos 0) ≡ false) where
+    pub own-falls : ltZ y x ≡ true → C.Refused BadOffsets ≡ checkedBy (ownRules size low high)
+    own-falls u = rw (natural low (rw p at t), signed.falls p q u)
+
+    module _ (u : ltZ y x ≡ false) where
+      pub own-past : (n : ℕ) → n ≡ toNat high → size < n → C.Refused BadOffsets ≡ checkedBy (ownRules size low high)
+      own-past n e h =
+          let k : size < toNat high = omega arith in
+          rw (natural low (rw p at t), signed.never-falls p q u, past-size high size k)
+
+      pub own-fine : (n : ℕ) → n ≡ toNat high → n ≤ size → C.Passed ≡ checkedBy (ownRules size low high)
+      own-fine n e h =
+          let k : toNat high ≤ size = omega arith in
+          rw (natural low (rw p at t), signed.never-falls p q u, within-size high size k)
+
+-- the same of the machine's numbers
+pub own-are : (size : ℕ) (c : Checked) {x y low high : ℤ} → x ≡ low → y ≡ high → c ≡ checkedBy (ownRules size x y) → c ≡ checkedBy (ownRules size low high)
+own-are size c {x} {y} {low} p q e = e ∙ ap (λ (z : ℤ). checkedBy (ownRules size z y)) p ∙ ap (λ (z : ℤ). checkedBy (ownRules size low z)) q
+
+pub first-are : (header : List ℕ) (f : FirstAnswer) (m n : ℕ) {a b : ℕ} → m ≡ a → n ≡ b → f ≡ firstOf header m n → f ≡ firstOf header a b
+first-are header f m n {a} p q e = e ∙ ap (λ (k : ℕ). firstOf header k n) p ∙ ap (firstOf header a) q
+
+module _ (header : List ℕ) (title : ℕ) (low high : ℤ) (c : Checked) (e : c ≡ checkedBy (ownRules (length header) low high)) where
+  pub offsets-refused : (r : Refusal) → c ≡ C.Refused r → Refused r ≡ offsetsLabel header title low high
+  unfolding offsetsLabel
+  offsets-refused r p = sym (refused-alone (ownRules (length header) low high) c e Refused (recordLabel title (firstOf header (toNat low) (toNat high))) r p)
+
+  pub offsets-passed : (x : LabelAnswer) → c ≡ C.Passed → x ≡ recordLabel title (firstOf header (toNat low) (toNat high)) → x ≡ offsetsLabel header title low high
+  unfolding offsetsLabel
+  offsets-passed x p q = q ∙ sym (passed-alone (ownRules (length header) low high) c e Refused (recordLabel title (firstOf header (toNat low) (toNat high))) p)
+
+-- ---- the rules before them
+
+module _ (index header : List ℕ) (number : ℕ) where
+  pub label-index-large : 2147483647 < length index → Refused TooLarge ≡ labelOf index header number
+  unfolding labelOf
+  label-index-large h = rw (lt-leb _ _ h)
+
+  module _ (h : length index ≤ 2147483647) where
+    pub label-header-large : 2147483647 < length header → Refused TooLarge ≡ labelOf index header number
+    unfolding labelOf
+    label-header-large k = rw (le-leb _ _ h, lt-leb _ _ k)
+
+    module _ (k : length header ≤ 2147483647) where
+      pub label-index-refused : (r : Refusal) → indexAnswer index ≡ X.Refused r → Refused r ≡ labelOf index header number
+      unfolding labelOf
+      label-index-refused r e = rw (le-leb _ _ h, le-leb _ _ k, e)
+
+      module _ (x : Index) (e : indexAnswer index ≡ X.Read x) where
+        pub label-none : sequences index ≤ number → Refused NoSuchSequence ≡ labelOf index header number
+        unfolding labelOf
+        label-none l = rw (le-leb _ _ h, le-leb _ _ k, e, le-ltb _ _ l)
+
+        pub label-found : (a : LabelAnswer) (table title : ℕ) (low high : ℤ) → number < sequences index → table ≡ headerTable index → title ≡ titleLength index
+            → low ≡ offsetAt index table number → high ≡ offsetAt index table (number + 1) → a ≡ offsetsLabel header title low high
+            → a ≡ labelOf index header number
+        unfolding labelOf
+        label-found a table title low high l f g u v q =
+            rw (le-leb _ _ h, le-leb _ _ k, e, lt-ltb _ _ l) (rw (← f, ← g, ← u, ← v) q)
+
+-- ---- an index that was read
+
+not-read : (x : Index) (r : Refusal) → X.Refused r ≡ X.Read x → ⊥
+not-read x r e = let z : _≡_ {A = ℕ} 0 1 = cc in omega arith
+
+pub record IndexRead (index : List ℕ) (x : Index) : Type 0 where
+  pub number : x .sequences ≡ sequences index
+  pub few : sequences index ≤ 134217728
+  pub table : x .«header_table» ≡ headerTable index
+  pub reaches : headerTable index ≤ length index
+  pub title : x .«title_length» ≡ titleLength index
+  pub titled : 12 + titleLength index ≤ length index
+
+pub index-read : (index : List ℕ) (x : Index) → indexAnswer index ≡ X.Read x → IndexRead index x
+unfolding indexOf
+index-read index x e =
+    let a = passes-with X.Refused (X.Read (indexOf index)) (X.Read x) (not-read x) (indexRules index) e in
+    let q : indexOf index ≡ x = cc in
+    let parts = index-parts index (a .0) in
+    record {
+      number = sym (ap (λ (y : Index). y .sequences) q);
+      few = few-sequences index (a .0);
+      table = sym (ap (λ (y : Index). y .«header_table») q);
+      reaches = leb-true (headerTable index) (length index) (parts .counts .1 .1 .1 .1 .1 .0);
+      title = sym (ap (λ (y : Index). y .«title_length») q);
+      titled = leb-true (12 + titleLength index) (length index) (parts .title .1 .1 .1 .1 .1 .1 .0);
+    }
+
+-- ---- a label's part lies within its file
+
+abbrev pub LabelWithin : List ℕ → List ℕ → LabelAnswer → Type 0
+LabelWithin index header (InHeader t) = t .start + t .len ≤ length header
+LabelWithin index header (InIndex t) = t .start + t .len ≤ length index
+LabelWithin index header (Refused r) = Unit {0}
+
+module _ (index header : List ℕ) where
+  record-within : (title low high : ℕ) (f : FirstAnswer) → 12 + title ≤ length index → firstOf header low high ≡ f → LabelWithin index header (recordLabel title f)
+  record-within title low high (G.Title t) h e = first-within header low high t e
+  record-within title low high G.Untitled h e = h
+  record-within title low high (G.Refused r) h e = tt
+
+  offsets-within : (title : ℕ) (low high : ℤ) → 12 + title ≤ length index → LabelWithin index header (offsetsLabel header title low high)
+  unfolding offsetsLabel
+  offsets-within title low high h =
+      let P : LabelAnswer → Type 0 = LabelWithin index header in
+      cond-elim P (nonNeg low)
+      (λ _. cond-elim P (leZ low high)
+      (λ _. cond-elim P (leZ high (pos (length header))) (λ _. record-within title (toNat low) (toNat high) (firstOf header (toNat low) (toNat high)) h refl) (λ _. tt))
+      (λ _. tt))
+      (λ _. tt)
+
+  number-within : (number : ℕ) (a : IndexAnswer) → indexAnswer index ≡ a → LabelWithin index header (numberLabel index header number a)
+  number-within number (X.Read x) e =
+      cond-elim (LabelWithin index header) (ltb number (sequences index))
+      (λ _. offsets-within (titleLength index) (offsetAt index (headerTable index) number) (offsetAt index (headerTable index) (number + 1)) (index-read index x e .titled))
+      (λ _. tt)
+  number-within number (X.Refused r) e = tt
+
+  label-lies : (number : ℕ) → LabelWithin index header (labelOf index header number)
+  unfolding labelOf
+  label-lies number =
+      let P : LabelAnswer → Type 0 = LabelWithin index header in
+      cond-elim P (leb (length index) 2147483647)
+      (λ _. cond-elim P (leb (length header) 2147483647) (λ _. number-within number (indexAnswer index) refl) (λ _. tt)) (λ _. tt)
+
+  pub label-within : (number : ℕ) (a : LabelAnswer) → labelOf index header number ≡ a → LabelWithin index header a
+  label-within number a e = subst (LabelWithin index header) e (label-lies number)
+
+  pub part-header : (a : LabelAnswer) (t : Span) → a ≡ InHeader t → take (t .start + t .len - t .start) (drop (t .start) header) ≡ labelPart index header a
+  part-header a t e = rw e (simp add-sub-cancel-left)
+
+  pub part-index : (a : LabelAnswer) (t : Span) → a ≡ InIndex t → take (t .start + t .len - t .start) (drop (t .start) index) ≡ labelPart index header a
+  part-index a t e = rw e (simp add-sub-cancel-left)

@@ -1,0 +1,2 @@
+pub mod Walker
+pub mod Label
