@@ -1,0 +1,126 @@
+-- The lookup finds exactly where its rules hold, and in a set that passed it finds every number. Assumes nothing.
+use mathlib.Core.Path.{_≡_, refl, ap}
+use mathlib.Core.Bool.{true}
+use mathlib.Core.List.{List, _∷_, _++_}
+use Prim.Native.Nat.{ℕ, suc, _+_, _*_, _-_, _≤_, _<_}
+use native.Mathlib.Omega.{arith}
+use native.Mathlib.Nat.{le-antisymm}
+use lib.Dec.{ltb}
+use lib.IntN.{ℤ, pos, negsuc}
+use lib.ListN.{length}
+use lib.Seq.{slice}
+use lib.Signed.{ltZ, leZ, ltZ-yes, leZ-yes}
+use borrow.Author.Tests.{le-leb, leb-true, lt-ltb, ltb-true}
+use Rattle.laws.specs.Rules.{ask, AllHold}
+use Rattle.laws.proofs.Rules.{verdict-passes, hold-append, hold-first, hold-second}
+use Rattle.laws.proofs.Tests.{true-T, T-true}
+use Rattle.laws.proofs.Verdicts.{verdict-is}
+use Rattle.answers.specs.declared.Refusal.the-variants.{NoSuchSequence}
+use Rattle.packets.specs.declared.BytePos.{BytePos}
+use Rattle.packets.specs.declared.PacketPos.{PacketPos}
+use Rattle.packets.specs.Ends.{after}
+use Rattle.packets.proofs.Ends.{above}
+use Rattle.dsqdata.specs.declared.SetRecord.{SetRecord}
+use Rattle.dsqdata.specs.declared.SetAnswer.the-variants as A
+use Rattle.dsqdata.specs.declared.LookupAnswer.the-variants.{Found, Refused}
+use Rattle.dsqdata.specs.Header.{countOf, bytesAfterHeader, packetsIn, bodyOf}
+use Rattle.dsqdata.specs.Ends.{metadataTable, packetTable, endBefore, runAt, metadataStart}
+use Rattle.dsqdata.specs.Check.{countRules, setCheck}
+use Rattle.dsqdata.specs.Lookup.{partRules, startAt, lengthAt, lookupRules, foundAt, lookupOf}
+use Rattle.dsqdata.specs.Rules.{EndsRule, PartRule, LookupRules}
+use Rattle.dsqdata.proofs.Rising.{end-low, ends-within, run-is}
+use Rattle.dsqdata.proofs.SetRules.{passed-rules}
+
+module _ (i : List ℕ) (t k : ℕ) where
+  part-rule : AllHold (partRules i t k) → PartRule i t k
+  unfolding partRules
+  part-rule h = record { low = leZ-yes (true-T _ (h .0)); rises = ltZ-yes (true-T _ (h .1 .0)); high = leZ-yes (true-T _ (h .1 .1 .0)) }
+
+  rule-part : PartRule i t k → AllHold (partRules i t k)
+  unfolding partRules
+  rule-part r = (
+    T-true (leZ (negsuc 0) (endBefore i t k)) (r .low .le),
+    (T-true (ltZ (endBefore i t k) (endBefore i t (suc k))) (r .rises .lt), (T-true (leZ (endBefore i t (suc k)) (pos 2147483646)) (r .high .le), tt)),
+  )
+
+module _ (set : SetRecord) (i : List ℕ) (k : ℕ) where
+  -- What is found is the place, and the rules hold ..
+  pub found-rules : (a : BytePos) (b : ℕ) (p : PacketPos) (c : ℕ) → lookupOf set i k ≡ Found a b p c → LookupRules set i k × (foundAt i k ≡ Found a b p c)
+  unfolding lookupOf lookupRules countRules
+  found-rules a b p c h =
+      let v = verdict-is Refused (foundAt i k) (Found a b p c) (lookupRules set i k) (λ r e. let z : _≡_ {A = ℕ} 0 1 = cc in omega arith) h in
+      let n = hold-first (countRules (set .count) i) (ask (ltb k (set .count)) NoSuchSequence ∷ (partRules i metadataTable k ++ partRules i packetTable k)) (v .0 .1) in
+      let w = hold-second (countRules (set .count) i) (ask (ltb k (set .count)) NoSuchSequence ∷ (partRules i metadataTable k ++ partRules i packetTable k)) (v .0 .1) in (
+        record {
+          fits = leb-true _ _ (v .0 .0);
+          few = leb-true _ _ (n .0);
+          indexWhole = le-antisymm (leb-true _ _ (n .1 .1 .0)) (leb-true _ _ (n .1 .0));
+          known = ltb-true _ _ (w .0);
+          metadataPart = part-rule i metadataTable k (hold-first (partRules i metadataTable k) (partRules i packetTable k) (w .1));
+          runPart = part-rule i packetTable k (hold-second (partRules i metadataTable k) (partRules i packetTable k) (w .1));
+        },
+        v .1,
+      )
+
+  -- .. and where the rules hold the place is found.
+  pub rules-found : LookupRules set i k → lookupOf set i k ≡ foundAt i k
+  unfolding lookupOf lookupRules countRules
+  rules-found r =
+      let w = r .indexWhole in
+      let low : 52 + 16 * set .count ≤ length i = omega arith in
+      let high : length i ≤ 52 + 16 * set .count = omega arith in
+      verdict-passes Refused (foundAt i k) (lookupRules set i k) (
+        le-leb _ _ (r .fits),
+        hold-append (countRules (set .count) i) (ask (ltb k (set .count)) NoSuchSequence ∷ (partRules i metadataTable k ++ partRules i packetTable k))
+            (le-leb _ _ (r .few), (le-leb _ _ low, (le-leb _ _ high, tt))) (
+              lt-ltb _ _ (r .known),
+              hold-append (partRules i metadataTable k) (partRules i packetTable k) (rule-part i metadataTable k (r .metadataPart)) (rule-part i packetTable k (r .runPart)),
+            ),
+      )
+
+-- ---- in a set that passed
+
+top : (e : ℤ) → after e ≤ 2147483647 → leZ e (pos 2147483646) ≡ true
+top (pos n) h = le-leb n 2147483646 (omega arith)
+top (negsuc n) h = refl
+
+ends-part : (i : List ℕ) (t n size k : ℕ) → EndsRule i t n size → size ≤ 2147483647 → k < n → PartRule i t k
+ends-part i t n size k r h l =
+    let b = ends-within i t n size r (suc k) (omega arith) in
+    record {
+      low = end-low i t n (r .rises) k (omega arith);
+      rises = r .rises k l;
+      high = leZ-yes (true-T _ (top (endBefore i t (suc k)) (omega arith)));
+    }
+
+module _ (i m s : List ℕ) (x : SetRecord) (h : setCheck i m s ≡ A.Passed x) (k : ℕ) (l : k < countOf i) where
+  -- In a set that passed, the lookup by its record finds every number ..
+  pub passed-found : lookupOf x i k ≡ foundAt i k
+  passed-found =
+      let p = passed-rules i m s x h in
+      let o = p .0 .others in
+      let n : countOf i ≡ x .count = ap (λ (y : SetRecord). y .count) (p .1) in
+      rules-found x i k
+      (record {
+        fits = o .indexFits;
+        few = rw n at (o .few);
+        indexWhole = rw n at (o .indexWhole);
+        known = rw n at l;
+        metadataPart = ends-part i metadataTable (countOf i) (bytesAfterHeader m) k (o .metadataEnds) (let z = o .metadataFits in omega arith) l;
+        runPart = ends-part i packetTable (countOf i) (packetsIn s) k (p .0 .packetEnds) (let z = o .sequenceFits in omega arith) l;
+      })
+
+  -- .. its run is the packets from the start found, as many as found ..
+  pub found-run : slice (startAt i packetTable k) (startAt i packetTable k + lengthAt i packetTable k) (bodyOf s) ≡ runAt i s k
+  found-run =
+      let p = passed-rules i m s x h in
+      let r = p .0 .packetEnds in
+      let u = above (endBefore i packetTable k) (endBefore i packetTable (suc k)) (end-low i packetTable (countOf i) (r .rises) k (omega arith)) (r .rises k l) in
+      run-is i s k (startAt i packetTable k) (startAt i packetTable k + lengthAt i packetTable k) refl (omega arith)
+
+  -- .. and its metadata ends where that of the next begins.
+  pub found-metadata : 8 + startAt i metadataTable k + lengthAt i metadataTable k ≡ metadataStart i (suc k)
+  found-metadata =
+      let r = passed-rules i m s x h .0 .others .metadataEnds in
+      let u = above (endBefore i metadataTable k) (endBefore i metadataTable (suc k)) (end-low i metadataTable (countOf i) (r .rises) k (omega arith)) (r .rises k l) in
+      omega arith

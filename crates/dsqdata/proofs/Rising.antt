@@ -1,0 +1,123 @@
+-- The ends of a table, end by end. Assumes nothing.
+use mathlib.Core.Path.{_≡_, refl, sym, ap, _∙_}
+use mathlib.Core.Bool.{Bool}
+use mathlib.Core.Logic.{⊎-elim}
+use mathlib.Core.List.{List}
+use Prim.Native.Nat.{ℕ, zero, suc, _+_, _*_, _-_, _^_, _≤_, _<_}
+use native.Mathlib.Omega.{arith}
+use native.Mathlib.Numerals.{add-one}
+use native.Mathlib.Nat.{eq-or-lt-of-le, le-of-suc-le-suc, le-trans, le-of-eq}
+use lib.ListN.{take, length-take, length-drop}
+use lib.Seq.{slice}
+use lib.IntN.{ℤ, negsuc}
+use lib.Signed.{_<ℤ_, mag, ltZ, ltZ-yes, leZ-yes}
+use borrow.Author.Tests.{eqb-true, eq-eqb}
+use mir.Syntax.{w64}
+use mir.Val.{toZ, ofZ}
+use Rattle.laws.specs.Rules.{AllHold}
+use Rattle.laws.proofs.Places.{every-at, every-all}
+use Rattle.laws.proofs.Tests.{true-T, T-true}
+use Rattle.packets.specs.Ends.{after, lastPlace}
+use Rattle.packets.proofs.Ends.{Low, above, low-next, same-end, after-last, last-low}
+use Rattle.packets.proofs.Lengths.{unpacked-most}
+use Rattle.dsqdata.specs.Header.{setSigned, packetsIn, bodyOf}
+use Rattle.dsqdata.specs.Ends.{packetTable, endBefore, risesAt, runAt, residuesAt}
+use Rattle.dsqdata.specs.Check.{endsRules}
+use Rattle.dsqdata.specs.Rules.{EndsRule}
+use Rattle.dsqdata.specs.declared.runs.Run.{Run}
+use Rattle.dsqdata.specs.Scans.{runRead}
+use Rattle.dsqdata.proofs.Bodies.{body-length}
+use Rattle.dsqdata.proofs.Signs.{again}
+
+module _ (index : List ℕ) (table : ℕ) where
+  pub end-zero : (k : ℕ) → k ≡ 0 → endBefore index table k ≡ negsuc 0
+  unfolding endBefore
+  end-zero k h = rw h
+
+  pub end-suc : (k : ℕ) → endBefore index table (suc k) ≡ setSigned 8 index (table + 16 * k)
+  unfolding endBefore
+  end-suc k = refl
+
+  pub end-next : (k : ℕ) → endBefore index table (k + 1) ≡ setSigned 8 index (table + 16 * k)
+  end-next k = rw add-one (end-suc k)
+
+  pub end-not-first : (k : ℕ) → (k ≡ 0 → ⊥) → endBefore index table k ≡ setSigned 8 index (table + 16 * (k - 1))
+  unfolding endBefore
+  end-not-first zero h = absurd (h refl)
+  end-not-first (suc k) h = let e : suc k - 1 ≡ k = omega arith in rw e
+
+  -- the place after the end of number k, as the code reads it
+  pub end-after : (k r : ℕ) (z : ℤ) → r ≡ after (toZ w64 (ofZ w64 z)) → mag z < 2 ^ 63 → z ≡ setSigned 8 index (table + 16 * k)
+      → r ≡ after (endBefore index table (suc k))
+  end-after k r z e h p = e ∙ ap after (again w64 z (endBefore index table (suc k)) h (p ∙ sym (end-suc k)))
+
+  -- the test of a loop that keeps the end before
+  pub rises-is : (k : ℕ) (b e : ℤ) (v : Bool) → b ≡ endBefore index table k → e ≡ setSigned 8 index (table + 16 * k) → ltZ b e ≡ v → risesAt index table k ≡ v
+  rises-is k b e v p q h = rw (end-suc k, ← p, ← q) h
+
+-- what never falls from one place to the next never falls
+mono : (g : ℕ → ℕ) (n : ℕ) → ((k : ℕ) → k < n → g k ≤ g (suc k)) → (k : ℕ) → k ≤ n → g k ≤ g n
+mono g zero h k l = let e : k ≡ 0 = omega arith in le-of-eq (ap g e)
+mono g (suc n) h k l =
+    ⊎-elim (λ e. le-of-eq (ap g e)) (λ m. le-trans (mono g n (λ j a. h j (omega arith)) k (le-of-suc-le-suc m)) (h n (omega arith))) (eq-or-lt-of-le l)
+
+module _ (index : List ℕ) (table n : ℕ) (r : (k : ℕ) → k < n → endBefore index table k <ℤ endBefore index table (suc k)) where
+  -- ends that rise from -1 on are at least -1, and so are their places in order
+  pub end-low : (k : ℕ) → k ≤ n → Low (endBefore index table k)
+  end-low zero l = rw (end-zero index table 0 refl) (leZ-yes tt)
+  end-low (suc k) l = low-next (endBefore index table k) (endBefore index table (suc k)) (end-low k (omega arith)) (r k (omega arith))
+
+  after-rises : (k : ℕ) → k < n → after (endBefore index table k) < after (endBefore index table (suc k))
+  after-rises k l = above (endBefore index table k) (endBefore index table (suc k)) (end-low k (omega arith)) (r k l)
+
+  pub after-most : (k : ℕ) → k ≤ n → after (endBefore index table k) ≤ after (endBefore index table n)
+  after-most k l = mono (λ (j : ℕ). after (endBefore index table j)) n (λ j m. let x = after-rises j m in omega arith) k l
+
+module _ (index : List ℕ) (table n size : ℕ) where
+  -- the rules of a table of ends, and what document 01 says of it
+  pub ends-rule : AllHold (endsRules index table n size) → EndsRule index table n size
+  unfolding endsRules
+  ends-rule h =
+      let r : (k : ℕ) → k < n → endBefore index table k <ℤ endBefore index table (suc k) =
+      λ k l. ltZ-yes (true-T (risesAt index table k) (every-at (risesAt index table) n k l (h .0))) in
+      let m : after (endBefore index table n) ≡ size = eqb-true _ _ (h .1 .0) in
+      record {
+        first = end-zero index table 0 refl;
+        rises = r;
+        last = same-end (endBefore index table n) (lastPlace size) (end-low index table n r n (omega arith)) (last-low size) (m ∙ sym (after-last size));
+        none = λ e. sym m ∙ ap after (end-zero index table n e);
+      }
+
+  pub rule-ends : EndsRule index table n size → AllHold (endsRules index table n size)
+  unfolding endsRules
+  rule-ends r = (
+    every-all (risesAt index table) n (λ k l. T-true (risesAt index table k) (r .rises k l .lt)),
+    (eq-eqb (after (endBefore index table n)) size (ap after (r .last) ∙ after-last size), tt),
+  )
+
+  -- no end lies past the body
+  pub ends-within : EndsRule index table n size → (k : ℕ) → k ≤ n → after (endBefore index table k) ≤ size
+  ends-within r k l =
+      let m = after-most index table n (r .rises) k l in
+      let e : after (endBefore index table n) ≡ size = ap after (r .last) ∙ after-last size in
+      omega arith
+
+-- ---- runs
+
+module _ (index sequence : List ℕ) (k : ℕ) where
+  -- the run of number k by its places
+  pub run-is : (from to : ℕ) → from ≡ after (endBefore index packetTable k) → to ≡ after (endBefore index packetTable (suc k))
+      → slice from to (bodyOf sequence) ≡ runAt index sequence k
+  unfolding runAt
+  run-is from to e f = rw (e, f)
+
+  pub run-read : (a from to : ℕ) (r : Run) → from ≡ after (endBefore index packetTable k) → to ≡ after (endBefore index packetTable (suc k))
+      → r ≡ runRead a (slice from to (bodyOf sequence)) → r ≡ runRead a (runAt index sequence k)
+  run-read a from to r e f p = p ∙ ap (runRead a) (run-is from to e f)
+
+  pub residues-most : residuesAt index sequence k ≤ 15 * packetsIn sequence
+  unfolding runAt
+  residues-most =
+      let f = after (endBefore index packetTable k) in
+      let t = after (endBefore index packetTable (suc k)) in
+      omega (arith, unpacked-most (slice f t (bodyOf sequence)), length-drop f (take t (bodyOf sequence)), length-take t (bodyOf sequence), body-length sequence)

@@ -1,0 +1,163 @@
+-- From what a pass over the runs, over the metadata records or over two ends answers to the rules of the whole. Assumes nothing.
+use mathlib.Core.Path.{_≡_, refl, sym, ap, _∙_}
+use mathlib.Core.Bool.{Bool, true, false}
+use mathlib.Core.List.{List, [], _∷_, _++_, append-nil}
+use Prim.Native.Nat.{ℕ, suc, _≤_}
+use lib.IntN.{pos, negsuc}
+use lib.Signed.{ltZ, leZ}
+use lib.ListN.{length}
+use borrow.Author.Tests.{leb-true}
+use native.Mathlib.Omega.{arith}
+use Rattle.laws.specs.Places.{sumTo, largestTo}
+use Rattle.laws.specs.Rules.{Rule, ask, verdict, AllHold}
+use Rattle.laws.proofs.Rules.{verdict-append, refused-any, hold-first, hold-second}
+use Rattle.laws.proofs.Verdicts.{verdict-is, refused-then}
+use Rattle.answers.specs.declared.Refusal.{Refusal}
+use Rattle.answers.specs.declared.Refusal.the-variants.{BadOffsets}
+use Rattle.answers.specs.declared.Checked.{Checked}
+use Rattle.answers.specs.declared.Checked.the-variants as C
+use Rattle.answers.specs.Limits.{checkedBy}
+use Rattle.answers.proofs.Checks.{all-hold, refused-first}
+use Rattle.packets.specs.Runs.{unpacked}
+use Rattle.dsqdata.specs.declared.SetRecord.{SetRecord}
+use Rattle.dsqdata.specs.declared.runs.Run.{Run}
+use Rattle.dsqdata.specs.declared.runs.Run.the-variants as R
+use Rattle.dsqdata.specs.declared.runs.Runs.{Runs}
+use Rattle.dsqdata.specs.declared.runs.Runs.the-variants as U
+use Rattle.dsqdata.specs.declared.metadata.Records.{Records}
+use Rattle.dsqdata.specs.declared.metadata.Records.the-variants as M
+use Rattle.dsqdata.specs.declared.ends.Part.{Part}
+use Rattle.dsqdata.specs.declared.ends.Part.the-variants as P
+use Rattle.dsqdata.specs.Header.{countOf, recordOf}
+use Rattle.dsqdata.specs.Ends.{endBefore, residuesAt}
+use Rattle.dsqdata.specs.Metadata.{nameAt, accessionAt, descriptionAt}
+use Rattle.dsqdata.specs.Check.{sizeRules, startRules, tagRules, fileRules, headerRules, countRules, bodyRules, layoutRules, endsRules, rulesTo, rulesOfRun, runRulesTo, rulesOfRecord, statedRules, totalRules, behindRuns, restRules}
+use Rattle.dsqdata.specs.Scans.{runRead, runsTo, recordsTo}
+use Rattle.dsqdata.specs.Lookup.{partRules, startAt, lengthAt, partOf}
+
+clash : {A : Type 0} → _≡_ {A = ℕ} 0 1 → A
+clash e = absurd (let z : ⊥ = omega arith in z)
+
+-- ---- the runs
+
+module _ (a : ℕ) (ps : List ℕ) (c : Run) (e : c ≡ runRead a ps) where
+  pub run-refused : (r : Refusal) → c ≡ R.Refused r → C.Refused r ≡ checkedBy (rulesOfRun a ps)
+  unfolding runRead
+  run-refused r p =
+      sym (refused-any R.Refused (R.Residues (length (unpacked ps))) (rulesOfRun a ps) r (λ x q. cc) (λ q. clash (cc)) (sym e ∙ p) C.Refused C.Passed)
+
+  pub run-passed : (n : ℕ) → c ≡ R.Residues n → AllHold (rulesOfRun a ps) × (n ≡ length (unpacked ps))
+  unfolding runRead
+  run-passed n p =
+      let v = verdict-is R.Refused (R.Residues (length (unpacked ps))) (R.Residues n) (rulesOfRun a ps) (λ r q. clash (cc)) (sym e ∙ p) in
+      let t = v .1 in
+      (v .0, (cc))
+
+module _ (i s : List ℕ) (a n : ℕ) (c : Runs) (e : c ≡ runsTo i s a n) where
+  pub runs-refused : (r : Refusal) → c ≡ U.Refused r → (more : List (Rule Refusal)) {B : Type 0} (told : Refusal → B) (fine : B)
+      → verdict told fine (runRulesTo i s a n ++ more) ≡ told r
+  unfolding runsTo
+  runs-refused r p more told fine =
+      refused-then U.Refused (U.Totals (sumTo (residuesAt i s) n) (largestTo (residuesAt i s) n)) (runRulesTo i s a n) more r
+      (λ x q. cc) (λ q. clash (cc)) (sym e ∙ p) told fine
+
+  pub runs-totals : (x y : ℕ) → c ≡ U.Totals x y
+      → AllHold (runRulesTo i s a n) × (x ≡ sumTo (residuesAt i s) n) × (y ≡ largestTo (residuesAt i s) n)
+  unfolding runsTo
+  runs-totals x y p =
+      let v = verdict-is U.Refused (U.Totals (sumTo (residuesAt i s) n) (largestTo (residuesAt i s) n)) (U.Totals x y) (runRulesTo i s a n)
+      (λ r q. clash (cc)) (sym e ∙ p) in
+      let t = v .1 in
+      (v .0, (cc), (cc))
+
+-- ---- the metadata records
+
+module _ (i m : List ℕ) (n : ℕ) (c : Records) (e : c ≡ recordsTo i m n) where
+  pub records-refused : (r : Refusal) → c ≡ M.Refused r → (more : List (Rule Refusal)) {B : Type 0} (told : Refusal → B) (fine : B)
+      → verdict told fine (rulesTo (rulesOfRecord i m) n ++ more) ≡ told r
+  unfolding recordsTo
+  records-refused r p more told fine =
+      refused-then M.Refused (M.Longest (largestTo (nameAt i m) n) (largestTo (accessionAt i m) n) (largestTo (descriptionAt i m) n))
+      (rulesTo (rulesOfRecord i m) n) more r (λ x q. cc) (λ q. clash (cc)) (sym e ∙ p) told fine
+
+  pub records-longest : (x y z : ℕ) → c ≡ M.Longest x y z
+      → AllHold (rulesTo (rulesOfRecord i m) n) × (x ≡ largestTo (nameAt i m) n) × (y ≡ largestTo (accessionAt i m) n) × (z ≡ largestTo (descriptionAt i m) n)
+  unfolding recordsTo
+  records-longest x y z p =
+      let v = verdict-is M.Refused (M.Longest (largestTo (nameAt i m) n) (largestTo (accessionAt i m) n) (largestTo (descriptionAt i m) n)) (M.Longest x y z)
+      (rulesTo (rulesOfRecord i m) n) (λ r q. clash (cc)) (sym e ∙ p) in
+      let t = v .1 in
+      (v .0, (cc), (cc), (cc))
+
+-- ---- the part of one number
+
+-- whatever rule of the two ends is broken, it is 7
+only-offsets : (a b c : Bool) → verdict (λ (r : Refusal). r) BadOffsets (ask a BadOffsets ∷ ask b BadOffsets ∷ ask c BadOffsets ∷ []) ≡ BadOffsets
+only-offsets false b c = refl
+only-offsets true false c = refl
+only-offsets true true false = refl
+only-offsets true true true = refl
+
+module _ (i : List ℕ) (t k : ℕ) (c : Part) (e : c ≡ partOf i t k) where
+  part-any : (r : Refusal) → c ≡ P.Refused r → {B : Type 0} (told : Refusal → B) (fine : B) → verdict told fine (partRules i t k) ≡ told r
+  unfolding partOf
+  part-any r p told fine =
+      refused-any P.Refused (P.At (startAt i t k) (lengthAt i t k)) (partRules i t k) r (λ x q. cc) (λ q. clash (cc)) (sym e ∙ p) told fine
+
+  pub part-refused : (r : Refusal) → c ≡ P.Refused r → (more : List (Rule Refusal)) {B : Type 0} (told : Refusal → B) (fine : B)
+      → verdict told fine (partRules i t k ++ more) ≡ told BadOffsets
+  unfolding partRules
+  part-refused r p more told fine =
+      let b : r ≡ BadOffsets = sym (part-any r p (λ (x : Refusal). x) BadOffsets)
+      ∙ only-offsets (leZ (negsuc 0) (endBefore i t k)) (ltZ (endBefore i t k) (endBefore i t (suc k))) (leZ (endBefore i t (suc k)) (pos 2147483646)) in
+      verdict-append told fine (partRules i t k) more ∙ (part-any r p told (verdict told fine more) ∙ ap told b)
+
+  pub part-last : (r : Refusal) → c ≡ P.Refused r → {B : Type 0} (told : Refusal → B) (fine : B) → verdict told fine (partRules i t k) ≡ told BadOffsets
+  part-last r p told fine = ap (verdict told fine) (sym (append-nil (partRules i t k))) ∙ part-refused r p [] told fine
+
+  pub part-found : (x y : ℕ) → c ≡ P.At x y → AllHold (partRules i t k) × (x ≡ startAt i t k) × (y ≡ lengthAt i t k)
+  unfolding partOf
+  part-found x y p =
+      let v = verdict-is P.Refused (P.At (startAt i t k) (lengthAt i t k)) (P.At x y) (partRules i t k) (λ r q. clash (cc)) (sym e ∙ p) in
+      let t = v .1 in
+      (v .0, (cc), (cc))
+
+-- ---- the count and the totals
+
+pub few-sequences : (n : ℕ) (i : List ℕ) (c : Checked) → c ≡ checkedBy (countRules n i) → c ≡ C.Passed → n ≤ 134217728
+unfolding countRules
+few-sequences n i c e p = leb-true _ _ (all-hold (countRules n i) c e p .0)
+
+pub totals-are : (i m : List ℕ) (set : SetRecord) (residues longest x y z : ℕ) → set ≡ recordOf i
+    → x ≡ largestTo (nameAt i m) (countOf i) → y ≡ largestTo (accessionAt i m) (countOf i) → z ≡ largestTo (descriptionAt i m) (countOf i)
+    → checkedBy (statedRules set residues longest x y z) ≡ checkedBy (totalRules i m residues longest)
+unfolding totalRules
+totals-are i m set residues longest x y z q e f g = rw (q, e, f, g)
+
+-- ---- the parts of the set check
+
+pub ends-here : (i : List ℕ) (t n n′ size size′ : ℕ) (c : Checked) → n ≡ n′ → size ≡ size′ → c ≡ checkedBy (endsRules i t n size)
+    → c ≡ checkedBy (endsRules i t n′ size′)
+ends-here i t n n′ size size′ c e f p = rw (← e, ← f) p
+
+pub rest-is : (i m s : List ℕ) (x y : ℕ) → x ≡ sumTo (residuesAt i s) (countOf i) → y ≡ largestTo (residuesAt i s) (countOf i)
+    → checkedBy (behindRuns i m x y) ≡ checkedBy (restRules i m s)
+unfolding restRules
+rest-is i m s x y e f = rw (e, f)
+
+pub small-files : (i m s : List ℕ) → AllHold (fileRules i m s) → (length i ≤ 2147483647) × (length m ≤ 2147483647) × (length s ≤ 2147483647)
+unfolding fileRules sizeRules
+small-files i m s h =
+    let p = hold-first (sizeRules i m s) (startRules 52 i ++ (startRules 8 m ++ (startRules 8 s ++ tagRules i m s))) h in
+    (leb-true _ _ (p .0), leb-true _ _ (p .1 .0), leb-true _ _ (p .1 .1 .0))
+
+pub count-small : (i s : List ℕ) → AllHold (layoutRules i s) → countOf i ≤ 134217728
+unfolding layoutRules countRules
+count-small i s h =
+    let p = hold-first (countRules (countOf i) i) (bodyRules s) (hold-second (headerRules i) (countRules (countOf i) i ++ bodyRules s) h) in
+    leb-true _ _ (p .0)
+
+-- a last part that refused decides
+pub refused-alone : (rules : List (Rule Refusal)) (c : Checked) (r : Refusal) → c ≡ checkedBy rules → c ≡ C.Refused r
+    → {B : Type 0} (told : Refusal → B) (fine : B) → verdict told fine rules ≡ told r
+refused-alone rules c r e p told fine = ap (verdict told fine) (sym (append-nil rules)) ∙ refused-first rules [] c r e p told fine

@@ -1,0 +1,149 @@
+-- `dsqdata::runs::check_runs`: the runs passed keep their rules, and their residues are added up and compared. Assumes nothing.
+use mathlib.Core.Path.{_≡_, refl, sym, ap, _∙_}
+use Prim.Native.Nat.{ℕ, suc, _+_, _*_, _-_, _≤_}
+use native.Mathlib.Omega.{arith}
+use native.Mathlib.Numerals.{add-one}
+use denote.Ref.{now}
+use Rattle.laws.specs.Places.{sumTo, largestTo}
+use Rattle.laws.specs.Rules.{AllHold}
+use Rattle.laws.proofs.Places.{sum-more, largest-more}
+use Rattle.laws.proofs.Rules.{verdict-passes}
+use Rattle.packets.specs.Ends.{after}
+use Rattle.dsqdata.specs.declared.runs.Runs.the-variants.{Totals, Refused}
+use Rattle.dsqdata.specs.Header.{packetsIn}
+use Rattle.dsqdata.specs.Ends.{packetTable, endBefore, runAt, residuesAt}
+use Rattle.dsqdata.specs.Check.{rulesOfRun, runRulesTo}
+use Rattle.dsqdata.specs.Scans.{residuesOf, runsTo}
+use Rattle.dsqdata.proofs.EachRule.{rules-more, rules-done, rules-refused}
+use Rattle.dsqdata.proofs.Rising.{end-zero, end-after, ends-rule, ends-within, run-read, residues-most}
+use Rattle.dsqdata.proofs.Wholes.{run-refused, run-passed}
+use borrow.Author.Needs.{needs}
+use Rattle.dsqdata.proofs.runs.check_runs.Statement.{statement}
+use Rattle.dsqdata.proofs.runs.check_runs.Tie as tie
+
+abbrev Inv-loop : tie.InvT-loop
+Inv-loop index sequence alphabet n residues₀ longest₀ from₀ k₀ residues longest from k = (k ≤ n)
+    × (from .0 ≡ after (endBefore index packetTable k))
+    × (residues ≡ sumTo (residuesAt index sequence) k)
+    × (longest ≡ largestTo (residuesAt index sequence) k)
+    × (residues ≤ k * 8053063680)
+    × AllHold (runRulesTo index sequence alphabet k)
+
+abbrev μ-loop : tie.MeasureT-loop
+μ-loop index sequence alphabet n residues₀ longest₀ from₀ k₀ residues longest from k = n - k
+
+loop-holds : tie.Need-loop-holds Inv-loop μ-loop
+loop-holds c = let i = now ((c .before .before .args) .index) in (omega arith, sym (ap after (end-zero i packetTable 0 refl)), refl, refl, omega arith, tt)
+
+mul-signed8 : tie.Need-mul-signed8 Inv-loop μ-loop
+mul-signed8 c = search needs
+
+add-signed8 : tie.Need-add-signed8 Inv-loop μ-loop
+add-signed8 c = search needs
+
+signed8-requires : tie.Need-signed8-requires Inv-loop μ-loop
+signed8-requires c κs = search needs
+
+after-end-requires : tie.Need-after-end-requires Inv-loop μ-loop
+after-end-requires c κs = search needs
+
+read-run-requires : tie.Need-read-run-requires Inv-loop μ-loop
+read-run-requires c κs = let a = (c .before .before .before .before .before .before .args) in
+    let l = (c .before .before .before .loop) in
+    let i = now (a .index) in
+    let s = now (a .sequence) in
+    let to = end-after i packetTable (l .k) _ _ ((c .after-end) .ensures) ((c .before .signed8) .ok) ((c .before .signed8) .ensures) in
+    let w = ends-within i packetTable (a .n) (packetsIn s) (ends-rule i packetTable (a .n) (packetsIn s) ((c .before .before .before .before .before .before .pre) .1)) (suc (l .k)) (omega arith) in
+    (omega (arith, to), omega arith)
+
+enum-known-run : tie.Need-enum-known-run Inv-loop μ-loop
+enum-known-run c = search needs
+
+returns : tie.Need-returns Inv-loop μ-loop
+unfolding runsTo
+returns c = let a = (c .before .before .before .before .before .before .before .before .before .before .args) in
+    let l = (c .before .before .before .before .before .before .before .loop) in
+    let i = now (a .index) in
+    let s = now (a .sequence) in
+    let to = end-after i packetTable (l .k) _ _ ((c .before .before .before .before .after-end) .ensures) ((c .before .before .before .before .before .signed8) .ok) ((c .before .before .before .before .before .signed8) .ensures) in
+    let run = run-read i s (l .k) (a .alphabet) (l .from .0) _ _ (l .inv .1) to ((c .before .before .before .read-run) .ensures) in
+    let e = run-refused (a .alphabet) (runAt i s (l .k)) _ run _ ((c .before .run) .given .1) in
+    sym (rules-refused (λ k. rulesOfRun (a .alphabet) (runAt i s k)) (a .n) (l .k) _ _ (omega arith) (l .inv .5) e refl Refused (Totals (sumTo (residuesAt i s) (a .n)) (largestTo (residuesAt i s) (a .n))))
+
+enum-told : tie.Need-enum-told Inv-loop μ-loop
+enum-told c = search needs
+
+residues-of-requires : tie.Need-residues-of-requires Inv-loop μ-loop
+residues-of-requires c κs = search needs
+
+add-residues : tie.Need-add-residues Inv-loop μ-loop
+add-residues c = let a = (c .before .before .before .before .before .before .before .before .before .before .args) in
+    let l = (c .before .before .before .before .before .before .before .loop) in
+    let i = now (a .index) in
+    let s = now (a .sequence) in
+    let to = end-after i packetTable (l .k) _ _ ((c .before .before .before .before .after-end) .ensures) ((c .before .before .before .before .before .signed8) .ok) ((c .before .before .before .before .before .signed8) .ensures) in
+    let run = run-read i s (l .k) (a .alphabet) (l .from .0) _ _ (l .inv .1) to ((c .before .before .before .read-run) .ensures) in
+    let g = run-passed (a .alphabet) (runAt i s (l .k)) _ run _ ((c .before .enum-told) .given .1) in
+    let n : (c .residues-of) .result ≡ residuesAt i s (l .k) = (c .residues-of) .ensures ∙ (ap residuesOf ((c .before .enum-told) .given .1) ∙ g .1) in
+    omega (arith, n, residues-most i s (l .k))
+
+larger-requires : tie.Need-larger-requires Inv-loop μ-loop
+larger-requires c κs = search needs
+
+add-k : tie.Need-add-k Inv-loop μ-loop
+add-k c = search needs
+
+loop-less : tie.Need-loop-less Inv-loop μ-loop
+loop-less c = search needs
+
+loop-again : tie.Need-loop-again Inv-loop μ-loop
+loop-again c = let a = (c .before .before .before .before .before .before .before .before .before .before .before .args) in
+    let l = (c .before .before .before .before .before .before .before .before .loop) in
+    let i = now (a .index) in
+    let s = now (a .sequence) in
+    let to = end-after i packetTable (l .k) _ _ ((c .before .before .before .before .before .after-end) .ensures) ((c .before .before .before .before .before .before .signed8) .ok) ((c .before .before .before .before .before .before .signed8) .ensures) in
+    let run = run-read i s (l .k) (a .alphabet) (l .from .0) _ _ (l .inv .1) to ((c .before .before .before .before .read-run) .ensures) in
+    let g = run-passed (a .alphabet) (runAt i s (l .k)) _ run _ ((c .before .before .enum-told) .given .1) in
+    let n : (c .before .residues-of) .result ≡ residuesAt i s (l .k) = (c .before .residues-of) .ensures ∙ (ap residuesOf ((c .before .before .enum-told) .given .1) ∙ g .1) in (
+      omega arith,
+      to ∙ ap (λ (m : ℕ). after (endBefore i packetTable m)) (sym (add-one (l .k))),
+      ap (λ (x : ℕ). x + (c .before .residues-of) .result) (l .inv .2) ∙ sum-more (residuesAt i s) (l .k) _ n,
+      (c .larger) .ensures ∙ largest-more (residuesAt i s) (l .k) _ _ (l .inv .3) n,
+      omega (arith, n, residues-most i s (l .k)),
+      rules-more (λ k. rulesOfRun (a .alphabet) (runAt i s k)) (l .k) (l .inv .5) (g .0),
+    )
+
+returns-2 : tie.Need-returns-2 Inv-loop μ-loop
+unfolding runsTo
+returns-2 c = let a = (c .before .before .before .before .args) in
+    let l = (c .before .loop) in
+    let i = now (a .index) in
+    let s = now (a .sequence) in
+    let n : l .k ≡ a .n = omega arith in
+    let x : l .residues ≡ sumTo (residuesAt i s) (a .n) = l .inv .2 ∙ ap (sumTo (residuesAt i s)) n in
+    let y : l .longest ≡ largestTo (residuesAt i s) (a .n) = l .inv .3 ∙ ap (largestTo (residuesAt i s)) n in
+    rw (x, y) (sym (verdict-passes Refused (Totals (sumTo (residuesAt i s) (a .n)) (largestTo (residuesAt i s) (a .n))) (runRulesTo i s (a .alphabet) (a .n))
+    (rules-done (λ k. rulesOfRun (a .alphabet) (runAt i s k)) (l .k) (a .n) (l .inv .0) ((c .loop-test) .left) (l .inv .5))))
+
+pub check-runs-spec : {M : Type 1} → statement M
+check-runs-spec =
+    tie.close
+    (tie.spec
+    Inv-loop
+    μ-loop
+    loop-holds
+    mul-signed8
+    add-signed8
+    signed8-requires
+    after-end-requires
+    read-run-requires
+    enum-known-run
+    returns
+    enum-told
+    residues-of-requires
+    add-residues
+    larger-requires
+    add-k
+    loop-less
+    loop-again
+    returns-2)

@@ -1,0 +1,75 @@
+-- The header fields of a set's files, and the packets of its sequence file (document 01, "A dsqdata set").
+-- Assumes nothing.
+use mathlib.Core.List.{List}
+use Prim.Native.Nat.{ℕ, _-_, _/_}
+use lib.IntN.{ℤ}
+use lib.ListN.{length}
+use Rattle.laws.specs.Places.{listTo}
+use Rattle.fields.specs.Number.{Order, little, unsignedAt, signedAt}
+use Rattle.packets.specs.Positions.{byteOf}
+use Rattle.dsqdata.specs.declared.SetRecord.{SetRecord}
+
+-- The byte order of every integer of a set: all little-endian.
+abbrev pub setOrder : Order
+setOrder = little
+
+-- The unsigned field of w bytes at a place of a set's file.
+unfoldable pub setField : ℕ → List ℕ → ℕ → ℕ
+setField w file at = unsignedAt setOrder w file at
+
+-- The signed field of w bytes at a place of a set's file, in two's complement.
+unfoldable pub setSigned : ℕ → List ℕ → ℕ → ℤ
+setSigned w file at = signedAt setOrder w file at
+
+-- What every file of a set begins with.
+abbrev pub setMagic : ℕ
+setMagic = 0xc4d3d1b1
+
+-- The first two fields of each file: magic, tag.
+abbrev pub magicOf : List ℕ → ℕ
+magicOf file = setField 4 file 0
+
+abbrev pub tagOf : List ℕ → ℕ
+tagOf file = setField 4 file 4
+
+-- The fields of the index that its rules ask by name: alphabet, flags, count.
+abbrev pub alphabetOf : List ℕ → ℕ
+alphabetOf index = setField 4 index 8
+
+abbrev pub flagsOf : List ℕ → ℕ
+flagsOf index = setField 4 index 12
+
+abbrev pub countOf : List ℕ → ℕ
+countOf index = setField 8 index 36
+
+-- The set's record: all ten header fields, seven of 4 bytes and three of 8.
+abbrev pub recordOf : List ℕ → SetRecord
+recordOf index =
+    record {
+      magic = magicOf index;
+      tag = tagOf index;
+      alphabet = alphabetOf index;
+      flags = flagsOf index;
+      «longest_name» = setField 4 index 16;
+      «longest_accession» = setField 4 index 20;
+      «longest_description» = setField 4 index 24;
+      «longest_sequence» = setField 8 index 28;
+      count = countOf index;
+      residues = setField 8 index 44;
+    }
+
+-- The bytes of a file after its 8-byte header (magic, tag).
+abbrev pub bytesAfterHeader : List ℕ → ℕ
+bytesAfterHeader file = length file - 8
+
+-- The number of packets of a sequence file.
+abbrev pub packetsIn : List ℕ → ℕ
+packetsIn sequence = bytesAfterHeader sequence / 4
+
+-- The packet at a place of a sequence file, counted in packets after its header.
+abbrev pub packetAt : List ℕ → ℕ → ℕ
+packetAt sequence place = setField 4 sequence (byteOf 8 place)
+
+-- The body of a sequence file: its packets.
+unfoldable pub bodyOf : List ℕ → List ℕ
+bodyOf sequence = listTo (packetAt sequence) (packetsIn sequence)

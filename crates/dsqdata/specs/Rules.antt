@@ -1,0 +1,126 @@
+-- What document 01 asks of a set, of a metadata record and of a lookup, rule by rule.
+-- proofs/SetRules.antt, proofs/MetadataRules.antt and proofs/LookupRules.antt show that the calls pass exactly where these rules hold.
+-- Assumes nothing.
+use mathlib.Core.Path.{_≡_}
+use mathlib.Core.Bool.{Bool, true, false}
+use mathlib.Core.Logic.{_⊎_}
+use mathlib.Core.List.{List}
+use Prim.Native.Nat.{ℕ, suc, _+_, _*_, _%_, _≤_, _<_}
+use lib.ListN.{length, getD}
+use lib.IntN.{ℤ, pos, negsuc}
+use lib.Signed.{_<ℤ_, _≤ℤ_}
+use Rattle.laws.specs.Places.{sumTo, largestTo}
+use Rattle.packets.specs.Ends.{lastPlace}
+use Rattle.packets.specs.Rules.{WellFormed}
+use Rattle.dsqdata.specs.declared.SetRecord.{SetRecord}
+use Rattle.dsqdata.specs.Header.{setMagic, setSigned, magicOf, tagOf, alphabetOf, flagsOf, countOf, recordOf, bytesAfterHeader, packetsIn}
+use Rattle.dsqdata.specs.Ends.{metadataTable, packetTable, endBefore, runAt, residuesAt, metadataStart}
+
+-- Ends: before the first stands -1; each rises; the last is the body's last place; with none, the body is empty.
+pub record EndsRule (index : List ℕ) (table n size : ℕ) : Type 0 where
+  pub first : endBefore index table 0 ≡ negsuc 0
+  pub rises : (k : ℕ) → k < n → endBefore index table k <ℤ endBefore index table (suc k)
+  pub last : endBefore index table n ≡ lastPlace size
+  pub none : n ≡ 0 → size ≡ 0
+
+-- ---- metadata
+
+-- A text's byte is no NUL, which closes it; in a name or an accession none of 9 to 13 and 32, in a description not 10.
+abbrev pub TextByte : Bool → ℕ → Type 0
+TextByte true b = (b ≡ 0 → ⊥) × (9 ≤ b → b ≤ 13 → ⊥) × (b ≡ 32 → ⊥)
+TextByte false b = (b ≡ 0 → ⊥) × (b ≡ 10 → ⊥)
+
+-- The text of the bytes from one place up to another is closed by the NUL there. The Bool tells a name or an accession from a description.
+pub record Text (name : Bool) (file : List ℕ) (from nul : ℕ) : Type 0 where
+  pub bytes : (k : ℕ) → from ≤ k → k < nul → TextByte name (getD file k 0)
+  pub closed : getD file nul 0 ≡ 0
+
+-- A taxonomy id: -1 for unset, or at least 1.
+abbrev pub Taxonomy : ℤ → Type 0
+Taxonomy id = (id ≡ negsuc 0) ⊎ (pos 1 ≤ℤ id)
+
+-- The bytes from one place up to, not including, another are a metadata record with texts of these lengths.
+pub record MetadataRule (file : List ℕ) (from to name accession description : ℕ) : Type 0 where
+  -- name, not empty
+  pub named : 0 < name
+  pub nameText : Text true file from (from + name)
+  -- accession
+  pub accessionText : Text true file (from + name + 1) (from + name + 1 + accession)
+  -- description
+  pub descriptionText : Text false file (from + name + 1 + accession + 1) (from + name + 1 + accession + 1 + description)
+  -- then a signed taxonomy id
+  pub taxonomy : Taxonomy (setSigned 4 file (from + name + 1 + accession + 1 + description + 1))
+  -- nothing more
+  pub whole : from + name + 1 + accession + 1 + description + 1 + 4 ≡ to
+
+-- ---- the set
+
+-- All that the check asks of a set except 7 for the packet ends and 17: the other rules of demand 3.
+pub record OtherRules (index metadata sequence : List ℕ) : Type 0 where
+  -- 22: no file is over 2,147,483,647 bytes
+  pub indexFits : length index ≤ 2147483647
+  pub metadataFits : length metadata ≤ 2147483647
+  pub sequenceFits : length sequence ≤ 2147483647
+  -- 1 and 14, file by file
+  pub indexStarts : 52 ≤ length index
+  pub indexMagic : magicOf index ≡ setMagic
+  pub metadataStarts : 8 ≤ length metadata
+  pub metadataMagic : magicOf metadata ≡ setMagic
+  pub sequenceStarts : 8 ≤ length sequence
+  pub sequenceMagic : magicOf sequence ≡ setMagic
+  -- 15: the three tags are the same
+  pub metadataTag : tagOf metadata ≡ tagOf index
+  pub sequenceTag : tagOf sequence ≡ tagOf index
+  -- 3: the alphabet is 1, 2 or 3
+  pub alphabet : (alphabetOf index ≡ 1) ⊎ ((alphabetOf index ≡ 2) ⊎ (alphabetOf index ≡ 3))
+  -- 4: flags 0, and the count at most 134,217,728
+  pub flags : flagsOf index ≡ 0
+  pub few : countOf index ≤ 134217728
+  -- 1, 6: the index is neither short nor long
+  pub indexWhole : length index ≡ 52 + 16 * countOf index
+  -- 1: the body is a multiple of 4
+  pub bodyWhole : bytesAfterHeader sequence % 4 ≡ 0
+  -- 7 for the metadata ends
+  pub metadataEnds : EndsRule index metadataTable (countOf index) (bytesAfterHeader metadata)
+  -- 19: the metadata of each number is a record, with texts of these lengths
+  pub name : ℕ → ℕ
+  pub accession : ℕ → ℕ
+  pub description : ℕ → ℕ
+  pub records : (k : ℕ) → k < countOf index
+      → MetadataRule metadata (metadataStart index k) (metadataStart index (suc k)) (name k) (accession k) (description k)
+  -- 9: the total of residues and all four longest lengths
+  pub residues : sumTo (residuesAt index sequence) (countOf index) ≡ recordOf index .residues
+  pub longestSequence : largestTo (residuesAt index sequence) (countOf index) ≡ recordOf index .«longest_sequence»
+  pub longestName : largestTo name (countOf index) ≡ recordOf index .«longest_name»
+  pub longestAccession : largestTo accession (countOf index) ≡ recordOf index .«longest_accession»
+  pub longestDescription : largestTo description (countOf index) ≡ recordOf index .«longest_description»
+
+-- The rules of a set.
+pub record SetRules (index metadata sequence : List ℕ) : Type 0 where
+  pub others : OtherRules index metadata sequence
+  -- 7 for the packet ends
+  pub packetEnds : EndsRule index packetTable (countOf index) (packetsIn sequence)
+  -- 17: each run between ends is well formed
+  pub runs : (k : ℕ) → k < countOf index → WellFormed (alphabetOf index) (runAt index sequence k)
+
+-- ---- the lookup
+
+-- The end of number k is above the one before, that one at least -1, and it is at most 2,147,483,646.
+pub record PartRule (index : List ℕ) (table k : ℕ) : Type 0 where
+  pub low : negsuc 0 ≤ℤ endBefore index table k
+  pub rises : endBefore index table k <ℤ endBefore index table (suc k)
+  pub high : endBefore index table (suc k) ≤ℤ pos 2147483646
+
+-- The rules of a lookup.
+pub record LookupRules (set : SetRecord) (index : List ℕ) (number : ℕ) : Type 0 where
+  -- 22
+  pub fits : length index ≤ 2147483647
+  -- 4
+  pub few : set .count ≤ 134217728
+  -- 1, 6
+  pub indexWhole : length index ≡ 52 + 16 * set .count
+  -- 10
+  pub known : number < set .count
+  -- 7
+  pub metadataPart : PartRule index metadataTable number
+  pub runPart : PartRule index packetTable number

@@ -1,0 +1,175 @@
+// The fields of a set's files, and the rules of the files, of the header fields and of the lengths that they state.
+use crate::SetRecord;
+use answers::Checked;
+use answers::MOST_BYTES;
+use answers::Refusal;
+ghost use mathlib.Core.Path.{_≡_};
+ghost use Rattle.answers.specs.Limits.{checkedBy};
+ghost use Rattle.dsqdata.specs.Header.{setField, setSigned, recordOf, bytesAfterHeader};
+ghost use Rattle.dsqdata.specs.Check.{sizeRules, startRules, tagRules, fileRules, countRules, layoutRules};
+
+// The most sequences of a set.
+const MOST_SEQUENCES: u64 = 134217728;
+
+// What every file of a set begins with.
+const MAGIC: u32 = 0xc4d3d1b1;
+
+// The unsigned field of four bytes at a place.
+pub(crate) fn field4(file: &[u8], at: usize) -> u32
+    ensures { λ r. ⌜ r ≡ setField 4 (now (file .entry)) at ⌝ }
+{
+    fields::le_u32(file, at)
+}
+
+// The unsigned field of eight bytes at a place.
+pub(crate) fn field8(file: &[u8], at: usize) -> u64
+    ensures { λ r. ⌜ r ≡ setField 8 (now (file .entry)) at ⌝ }
+{
+    fields::le_u64(file, at)
+}
+
+// The signed field of four bytes at a place.
+pub(crate) fn signed4(file: &[u8], at: usize) -> i32
+    ensures { λ r. ⌜ r ≡ setSigned 4 (now (file .entry)) at ⌝ }
+{
+    fields::le_i32(file, at)
+}
+
+// The signed field of eight bytes at a place.
+pub(crate) fn signed8(file: &[u8], at: usize) -> i64
+    ensures { λ r. ⌜ r ≡ setSigned 8 (now (file .entry)) at ⌝ }
+{
+    fields::le_i64(file, at)
+}
+
+// All ten header fields of an index.
+pub(crate) fn read_record(index: &[u8]) -> SetRecord
+    ensures { λ r. ⌜ r ≡ recordOf (now (index .entry)) ⌝ }
+{
+    SetRecord {
+        magic: field4(index, 0),
+        tag: field4(index, 4),
+        alphabet: field4(index, 8),
+        flags: field4(index, 12),
+        longest_name: field4(index, 16),
+        longest_accession: field4(index, 20),
+        longest_description: field4(index, 24),
+        longest_sequence: field8(index, 28),
+        count: field8(index, 36),
+        residues: field8(index, 44),
+    }
+}
+
+// The bytes of a file after its header of eight.
+pub(crate) fn bytes_after_header(file: &[u8]) -> usize
+    ensures { λ r. ⌜ r ≡ bytesAfterHeader (now (file .entry)) ⌝ }
+{
+    if file.len() < 8 {
+        return 0;
+    }
+    file.len() - 8
+}
+
+// The rule of the files' sizes.
+fn check_sizes(index: &[u8], metadata: &[u8], sequence: &[u8]) -> Checked
+    ensures { λ r. ⌜ r ≡ checkedBy (sizeRules (now (index .entry)) (now (metadata .entry)) (now (sequence .entry))) ⌝ }
+{
+    if index.len() > MOST_BYTES {
+        return Checked::Refused(Refusal::TooLarge);
+    }
+    if metadata.len() > MOST_BYTES {
+        return Checked::Refused(Refusal::TooLarge);
+    }
+    if sequence.len() > MOST_BYTES {
+        return Checked::Refused(Refusal::TooLarge);
+    }
+    Checked::Passed
+}
+
+// The rules of a file's start: its least size and its magic.
+fn check_start(file: &[u8], least: usize) -> Checked
+    ensures { λ r. ⌜ r ≡ checkedBy (startRules least (now (file .entry))) ⌝ }
+{
+    if file.len() < least {
+        return Checked::Refused(Refusal::TooShort);
+    }
+    if field4(file, 0) != MAGIC {
+        return Checked::Refused(Refusal::WrongMagic);
+    }
+    Checked::Passed
+}
+
+// The rule of the three tags.
+fn check_tags(index: &[u8], metadata: &[u8], sequence: &[u8]) -> Checked
+    ensures { λ r. ⌜ r ≡ checkedBy (tagRules (now (index .entry)) (now (metadata .entry)) (now (sequence .entry))) ⌝ }
+{
+    let tag = field4(index, 4);
+    if field4(metadata, 4) != tag {
+        return Checked::Refused(Refusal::TagsDiffer);
+    }
+    if field4(sequence, 4) != tag {
+        return Checked::Refused(Refusal::TagsDiffer);
+    }
+    Checked::Passed
+}
+
+// The rules of the files: sizes; then file by file; tags.
+pub(crate) fn check_files(index: &[u8], metadata: &[u8], sequence: &[u8]) -> Checked
+    ensures { λ r. ⌜ r ≡ checkedBy (fileRules (now (index .entry)) (now (metadata .entry)) (now (sequence .entry))) ⌝ }
+{
+    let sizes = check_sizes(index, metadata, sequence);
+    if let Checked::Refused(r) = sizes {
+        return Checked::Refused(r);
+    }
+    let first = check_start(index, 52);
+    if let Checked::Refused(r) = first {
+        return Checked::Refused(r);
+    }
+    let second = check_start(metadata, 8);
+    if let Checked::Refused(r) = second {
+        return Checked::Refused(r);
+    }
+    let third = check_start(sequence, 8);
+    if let Checked::Refused(r) = third {
+        return Checked::Refused(r);
+    }
+    check_tags(index, metadata, sequence)
+}
+
+// The rules of a count, and of the index length against it.
+pub(crate) fn check_count(index: &[u8], count: u64) -> Checked
+    ensures { λ r. ⌜ r ≡ checkedBy (countRules count (now (index .entry))) ⌝ }
+{
+    if count > MOST_SEQUENCES {
+        return Checked::Refused(Refusal::OutOfRange);
+    }
+    let size = 52 + 16 * (count as usize);
+    if index.len() < size {
+        return Checked::Refused(Refusal::TooShort);
+    }
+    if index.len() > size {
+        return Checked::Refused(Refusal::Leftover);
+    }
+    Checked::Passed
+}
+
+// The rules of the header fields and of the lengths that they state.
+pub(crate) fn check_layout(index: &[u8], sequence: &[u8], set: SetRecord) -> Checked
+    requires { ⌜ set ≡ recordOf (now index) ⌝ }
+    ensures { λ r. ⌜ r ≡ checkedBy (layoutRules (now (index .entry)) (now (sequence .entry))) ⌝ }
+{
+    if !residues::is_alphabet(set.alphabet) {
+        return Checked::Refused(Refusal::WrongKind);
+    }
+    if set.flags != 0 {
+        return Checked::Refused(Refusal::OutOfRange);
+    }
+    let counted = check_count(index, set.count);
+    if let Checked::Refused(r) = counted {
+        return Checked::Refused(r);
+    }
+    if bytes_after_header(sequence) % 4 != 0 {
+        return Checked::Refused(Refusal::TooShort);
+    }
+    Checked::Passed
+}

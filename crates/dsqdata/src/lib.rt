@@ -1,0 +1,125 @@
+// A dsqdata set: index, metadata and sequence file. The check of a whole set, and the lookup of one sequence.
+// Every public function takes any bytes.
+use answers::Checked;
+use answers::MOST_BYTES;
+use answers::Refusal;
+use ends::Part;
+use packets::BytePos;
+use packets::PacketPos;
+use runs::Runs;
+ghost use mathlib.Core.Path.{_≡_};
+ghost use Prim.Native.Nat.{_≤_};
+ghost use lib.ListN.{length};
+ghost use Rattle.answers.specs.Limits.{checkedBy};
+ghost use Rattle.dsqdata.specs.Header.{recordOf, countOf};
+ghost use Rattle.dsqdata.specs.Check.{contentRules, setCheck};
+ghost use Rattle.dsqdata.specs.Lookup.{lookupOf};
+
+mod ends;
+mod header;
+mod metadata;
+mod runs;
+
+// The ten header fields of a set, in file order.
+pub struct SetRecord {
+    pub magic: u32,
+    pub tag: u32,
+    pub alphabet: u32,
+    pub flags: u32,
+    pub longest_name: u32,
+    pub longest_accession: u32,
+    pub longest_description: u32,
+    pub longest_sequence: u64,
+    pub count: u64,
+    pub residues: u64,
+}
+
+pub enum SetAnswer {
+    Passed(SetRecord),
+    Refused(Refusal),
+}
+
+// Where one sequence stands, counted after the headers as the ends are: the start of its metadata and its length in bytes, the start of
+// its run and its length in packets.
+pub enum LookupAnswer {
+    Found {
+        start: BytePos,
+        bytes: u64,
+        run: PacketPos,
+        packets: u64,
+    },
+    Refused(Refusal),
+}
+
+// The rules of the ends, the runs, the metadata records and the totals.
+fn check_content(index: &[u8], metadata: &[u8], sequence: &[u8], set: SetRecord) -> Checked
+    requires { ⌜ (set ≡ recordOf (now index)) × (countOf (now index) ≤ 134217728) ⌝ }
+    requires { ⌜ (length (now metadata) ≤ 2147483647) × (length (now sequence) ≤ 2147483647) ⌝ }
+    ensures { λ r. ⌜ r ≡ checkedBy (contentRules (now (index .entry)) (now (metadata .entry)) (now (sequence .entry))) ⌝ }
+{
+    let n = set.count as usize;
+    let metadata_ends = ends::check_ends(index, 52, n, header::bytes_after_header(metadata));
+    if let Checked::Refused(r) = metadata_ends {
+        return Checked::Refused(r);
+    }
+    let packet_ends = ends::check_ends(index, 60, n, header::bytes_after_header(sequence) / 4);
+    if let Checked::Refused(r) = packet_ends {
+        return Checked::Refused(r);
+    }
+    let runs = runs::check_runs(index, sequence, set.alphabet, n);
+    match runs {
+        Runs::Refused(r) => Checked::Refused(r),
+        Runs::Totals(residues, longest) => {
+            metadata::check_rest(index, metadata, set, residues, longest)
+        }
+    }
+}
+
+// Checks a whole set; passing returns its ten header fields.
+pub fn check_set(index: &[u8], metadata: &[u8], sequence: &[u8]) -> SetAnswer
+    ensures { λ r. ⌜ r ≡ setCheck (now (index .entry)) (now (metadata .entry)) (now (sequence .entry)) ⌝ }
+{
+    let files = header::check_files(index, metadata, sequence);
+    if let Checked::Refused(r) = files {
+        return SetAnswer::Refused(r);
+    }
+    let set = header::read_record(index);
+    let layout = header::check_layout(index, sequence, set);
+    if let Checked::Refused(r) = layout {
+        return SetAnswer::Refused(r);
+    }
+    let content = check_content(index, metadata, sequence, set);
+    if let Checked::Refused(r) = content {
+        return SetAnswer::Refused(r);
+    }
+    SetAnswer::Passed(set)
+}
+
+// Finds the metadata and the run of one sequence, by the record that the check returned and the index.
+pub fn lookup(set: SetRecord, index: &[u8], number: u64) -> LookupAnswer
+    ensures { λ r. ⌜ r ≡ lookupOf set (now (index .entry)) number ⌝ }
+{
+    if index.len() > MOST_BYTES {
+        return LookupAnswer::Refused(Refusal::TooLarge);
+    }
+    let counted = header::check_count(index, set.count);
+    if let Checked::Refused(r) = counted {
+        return LookupAnswer::Refused(r);
+    }
+    if number >= set.count {
+        return LookupAnswer::Refused(Refusal::NoSuchSequence);
+    }
+    let k = number as usize;
+    let Part::At(start, bytes) = ends::part_at(index, 52, k) else {
+        return LookupAnswer::Refused(Refusal::BadOffsets);
+    };
+    let Part::At(first, packets) = ends::part_at(index, 60, k) else {
+        return LookupAnswer::Refused(Refusal::BadOffsets);
+    };
+    LookupAnswer::Found {
+        start: BytePos(start),
+        bytes,
+        run: PacketPos(first),
+        packets,
+    }
+}
