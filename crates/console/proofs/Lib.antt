@@ -1,0 +1,5 @@
+pub mod Values
+pub mod Calls
+pub mod Told
+pub mod Volume
+pub mod Bodies

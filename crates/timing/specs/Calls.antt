@@ -1,0 +1,18 @@
+-- What the exported set check answers: the set check, and last the room of the results range, as in the console's calls.
+-- Assumes nothing.
+use mathlib.Core.List.{List, _++_}
+use Prim.Native.Nat.{ℕ}
+use Rattle.laws.specs.Rules.{verdict}
+use Rattle.dsqdata.specs.Header.{recordOf}
+use Rattle.dsqdata.specs.Check.{setRules, setValues}
+use Rattle.dsqdata.specs.declared.SetAnswer.{SetAnswer}
+use Rattle.dsqdata.specs.declared.SetAnswer.the-variants.{Passed, Refused}
+use Rattle.console.specs.Results.{resultsPut}
+use Rattle.console.specs.Calls.{resultsRule}
+
+unfoldable pub timedSet : List ℕ → List ℕ → List ℕ → ℕ → SetAnswer
+timedSet index metadata sequence room = verdict Refused (Passed (recordOf index)) (setRules index metadata sequence ++ resultsRule 10 room)
+
+-- The results after the call: the ten header fields; on a refusal, which has none, the range as it was.
+abbrev pub setResults : SetAnswer → List ℕ → List ℕ
+setResults answer results = resultsPut (setValues answer) results

@@ -1,0 +1,41 @@
+// Calls that the C face lacks, exported for the benchmark and the tests alone. They are never linked into the library.
+use dsqdata::SetAnswer;
+ghost use mathlib.Core.Path.{_≡_};
+ghost use lib.ListN.{length};
+ghost use Rattle.dsqdata.specs.Check.{setNumber};
+ghost use Rattle.timing.specs.Calls.{timedSet, setResults};
+
+// Checks a set: its index, metadata and sequence file. The results are the ten header fields.
+#[no_mangle]
+pub extern "C" fn gull_time_check_set(
+    index: &[u8],
+    metadata: &[u8],
+    sequence: &[u8],
+    results: &mut [u8],
+) -> u32
+    ensures number { λ r. ⌜ r ≡ setNumber (timedSet (now (index .entry)) (now (metadata .entry)) (now (sequence .entry)) (length (now (results .entry)))) ⌝ }
+    ensures results { λ _. ⌜ now (results .exit) ≡ setResults (timedSet (now (index .entry)) (now (metadata .entry)) (now (sequence .entry)) (length (now (results .entry)))) (now (results .entry)) ⌝ }
+{
+    match dsqdata::check_set(index, metadata, sequence) {
+        SetAnswer::Refused(r) => answers::number(r),
+        SetAnswer::Passed(set) => {
+            if results.len() < 80 {
+                return 13;
+            }
+            let values = [
+                set.magic as u64,
+                set.tag as u64,
+                set.alphabet as u64,
+                set.flags as u64,
+                set.longest_name as u64,
+                set.longest_accession as u64,
+                set.longest_description as u64,
+                set.longest_sequence,
+                set.count,
+                set.residues,
+            ];
+            console::put_results(results, &values);
+            0
+        }
+    }
+}
