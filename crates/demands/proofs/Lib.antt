@@ -1,0 +1,3 @@
+pub mod Table
+pub mod Demand2Packets
+pub mod Demand3

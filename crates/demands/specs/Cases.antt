@@ -1,0 +1,38 @@
+-- The marked cases of document 01's table: one list, one statement of what is right.
+-- Assumes nothing.
+use mathlib.Core.Path.{_≡_}
+use mathlib.Core.List.{List, [], _∷_}
+use Prim.Native.Nat.{ℕ}
+use lib.ListN.{replicate}
+use Rattle.packets.specs.Packing.{run}
+
+-- A case: some codes packed in an alphabet give these packets.
+pub data Case : Type 0 where
+  packs : ℕ → List ℕ → List ℕ → Case
+
+-- What a case says.
+abbrev pub Right : Case → Type 0
+Right (packs alphabet codes packets) = run alphabet codes ≡ packets
+
+-- Every case of a list is right.
+abbrev pub AllRight : List Case → Type 0
+AllRight [] = Unit
+AllRight (c ∷ cases) = Right c × AllRight cases
+
+-- The cases marked T.
+abbrev pub table : List Case
+table =
+    -- DNA ACGT is C0110FFF
+    packs 2 (0 ∷ 1 ∷ 2 ∷ 3 ∷ []) (0xC0110FFF ∷ [])
+    -- no residues, FFFFFFFF
+    ∷ packs 2 [] (0xFFFFFFFF ∷ [])
+    -- 15 A's, 80000000; 15 T's, BFFFFFFF
+    ∷ packs 2 (replicate 15 0) (0x80000000 ∷ [])
+    ∷ packs 2 (replicate 15 3) (0xBFFFFFFF ∷ [])
+    -- 16 A's, 00000000 C1FFFFFF
+    ∷ packs 2 (replicate 16 0) (0x00000000 ∷ 0xC1FFFFFF ∷ [])
+    -- amino MK, D48FFFFF
+    ∷ packs 3 (10 ∷ 8 ∷ []) (0xD48FFFFF ∷ [])
+    -- seven amino A's, 40000000 C1FFFFFF
+    ∷ packs 3 (replicate 7 0) (0x40000000 ∷ 0xC1FFFFFF ∷ [])
+    ∷ []
