@@ -1,0 +1,11 @@
+/* Calls of the library that its C face lacks, exported for the benchmark and the tests alone (crate timing). */
+#ifndef BENCH_TIMING_H
+#define BENCH_TIMING_H
+
+#include <stddef.h>
+#include <stdint.h>
+
+uint32_t gull_time_check_set(const uint8_t *index, size_t index_len, const uint8_t *metadata, size_t metadata_len,
+                             const uint8_t *sequence, size_t sequence_len, uint8_t *results, size_t results_len);
+
+#endif
