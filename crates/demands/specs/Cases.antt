@@ -3,16 +3,21 @@
 use mathlib.Core.Path.{_≡_}
 use mathlib.Core.List.{List, [], _∷_}
 use Prim.Native.Nat.{ℕ}
+use lib.IntN.{ℤ, pos, negsuc}
 use lib.ListN.{replicate}
 use Rattle.packets.specs.Packing.{run}
+use Rattle.elements.specs.Parts.{integerAt}
+use Rattle.elements.specs.declared.IntegerAnswer.the-variants.{Integer}
 
--- A case: some codes packed in an alphabet give these packets.
+-- A case: some codes packed in an alphabet give these packets; an integer element of a header record is this number.
 pub data Case : Type 0 where
   packs : ℕ → List ℕ → List ℕ → Case
+  counts : List ℕ → ℤ → Case
 
 -- What a case says.
 abbrev pub Right : Case → Type 0
 Right (packs alphabet codes packets) = run alphabet codes ≡ packets
+Right (counts element number) = integerAt element 0 ≡ Integer number
 
 -- Every case of a list is right.
 abbrev pub AllRight : List Case → Type 0
@@ -35,4 +40,7 @@ table =
     ∷ packs 3 (10 ∷ 8 ∷ []) (0xD48FFFFF ∷ [])
     -- seven amino A's, 40000000 C1FFFFFF
     ∷ packs 3 (replicate 7 0) (0x40000000 ∷ 0xC1FFFFFF ∷ [])
+    -- 02 01 FF is -1; 02 02 00 80 is 128
+    ∷ counts (0x02 ∷ 0x01 ∷ 0xFF ∷ []) (negsuc 0)
+    ∷ counts (0x02 ∷ 0x02 ∷ 0x00 ∷ 0x80 ∷ []) (pos 128)
     ∷ []

@@ -1,25 +1,23 @@
 -- An element that is read to its end, taken apart by how it begins, and put together again. Assumes nothing.
-use mathlib.Core.Path.{_≡_, refl, sym, subst, ap, _∙_}
+use mathlib.Core.Path.{_≡_, refl, subst}
 use mathlib.Core.List.{List}
-use mathlib.Core.Bool.{Bool, true, false, cond, _&&_}
-use Prim.Native.Nat.{ℕ, zero, suc, _+_, _-_, _≤_, _<_}
+use mathlib.Core.Bool.{true, false, _&&_}
+use Prim.Native.Nat.{ℕ, zero, suc, _+_, _≤_, _<_}
 use native.Mathlib.Omega.{arith}
-use borrow.Author.Tests.{lt-ltb, le-ltb, le-leb, lt-leb, eq-eqb, ne-eqb, ltb-true, leb-true, eqb-true}
-use lib.ListN.{length, getD, take, drop}
-use lib.Dec.{ltb, leb, eqb}
-use Rattle.laws.specs.Digits.{value}
-use Rattle.laws.proofs.Tests.{never, both-pass, bool-cases, cond-passed}
+use borrow.Author.Tests.{lt-ltb, le-leb, eq-eqb, ne-eqb, ltb-true, eqb-true}
+use lib.ListN.{length, getD}
+use lib.Dec.{ltb, eqb}
+use Rattle.laws.proofs.Tests.{both-pass, bool-cases}
 use Rattle.laws.proofs.Choices.{cond-elim}
 use Rattle.elements.specs.declared.ElementAnswer.{ElementAnswer}
-use Rattle.elements.specs.declared.ElementAnswer.the-variants.{End, Refused}
+use Rattle.elements.specs.declared.ElementAnswer.the-variants.{End}
 use Rattle.elements.specs.declared.Start.{Start}
-use Rattle.elements.specs.declared.Start.the-variants as B
 use Rattle.elements.specs.declared.Form.{Form}
 use Rattle.elements.specs.Grammar.{inRange, mayBegin, inside}
 use Rattle.elements.specs.Parts.{integerPart, textPart}
 use Rattle.elements.specs.Reading.{bad, opens, closes, begins, tooDeep, endOf, startOf, closedAt, listEnd, restOf, read}
 use Rattle.elements.specs.Statement.{Byte, Close}
-use Rattle.elements.proofs.Parts.{range-parts, inside-file}
+use Rattle.elements.proofs.Parts.{range-parts}
 use Rattle.elements.proofs.Reading.{opens-within}
 
 -- ---- bytes

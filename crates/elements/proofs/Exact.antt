@@ -1,10 +1,10 @@
 -- The reader reads an element to a place exactly where the plain statement has it end there. Assumes nothing.
-use mathlib.Core.Path.{_≡_, refl, sym, subst, ap, _∙_}
+use mathlib.Core.Path.{_≡_, refl, sym, subst, ap}
 use mathlib.Core.List.{List}
-use mathlib.Core.Bool.{Bool, true, false, cond}
+use mathlib.Core.Bool.{true}
 use Prim.Native.Nat.{ℕ, zero, suc, _+_, _-_, _≤_, _<_}
 use native.Mathlib.Omega.{arith}
-use borrow.Author.Tests.{lt-ltb, le-ltb, le-leb, ltb-true, ltb-false, leb-true, eqb-true}
+use borrow.Author.Tests.{lt-ltb, le-ltb, le-leb, ltb-true, leb-true, eqb-true}
 use lib.ListN.{length, getD, take, drop}
 use lib.Dec.{ltb, leb, eqb}
 use Rattle.laws.specs.Digits.{value}
@@ -17,10 +17,10 @@ use Rattle.elements.specs.declared.SpanAnswer.{SpanAnswer}
 use Rattle.elements.specs.declared.SpanAnswer.the-variants as S
 use Rattle.elements.specs.declared.Form.{Form}
 use Rattle.elements.specs.declared.Form.the-variants as F
-use Rattle.elements.specs.Grammar.{inRange, mayBegin, inside, mayFollow}
+use Rattle.elements.specs.Grammar.{inRange, mayFollow}
 use Rattle.elements.specs.Parts.{bytesOf, partAt, integerPart, longPart, textPart}
-use Rattle.elements.specs.Reading.{bad, closes, endOf, andThen, closedAt, listEnd, read}
-use Rattle.elements.specs.Statement.{Byte, Close, IntegerElement, TextElement, Items, ListElement, ChoiceElement, AnyElement, Nested}
+use Rattle.elements.specs.Reading.{closes, endOf, andThen, closedAt, listEnd, read}
+use Rattle.elements.specs.Statement.{Byte, IntegerElement, TextElement, Items, ListElement, ChoiceElement, AnyElement, Nested}
 use Rattle.elements.specs.Statement as Z
 use Rattle.elements.proofs.Parts.{integer-read, allowed-bytes, bytes-allowed, range-parts}
 use Rattle.elements.proofs.Reading.{ends-within}

@@ -1,25 +1,13 @@
--- Cases of document 01's table, computed. Assumes nothing.
+-- The depth of a record, computed. The marked cases of document 01's table are in crate demands. Assumes nothing.
 use mathlib.Core.Path.{_≡_, refl}
 use mathlib.Core.List.{List, [], _∷_, _++_}
 use Prim.Native.Nat.{ℕ, zero, suc}
-use lib.IntN.{pos, negsuc}
 use Rattle.laws.specs.Digits.{value}
 use Rattle.answers.specs.declared.Refusal.the-variants.{BadHeader, TooDeep}
 use Rattle.elements.specs.declared.ElementAnswer.the-variants.{End, Refused}
-use Rattle.elements.specs.declared.IntegerAnswer.the-variants as I
 use Rattle.elements.specs.declared.Form.the-variants as F
-use Rattle.elements.specs.Parts.{partAt, integerAllowed, integerPart, longPart, textPart, integerAt}
+use Rattle.elements.specs.Parts.{partAt, integerAllowed, integerPart, longPart, textPart}
 use Rattle.elements.specs.Reading.{opens, closes, tooDeep, startOf, listEnd, read}
-
--- T: 02 01 FF is -1
-minus-one : integerAt (2 ∷ 1 ∷ 255 ∷ []) 0 ≡ I.Integer (negsuc 0)
-unfolding integerAt integerPart integerAllowed value
-minus-one = refl
-
--- T: 02 02 00 80 is 128
-one-hundred-twenty-eight : integerAt (2 ∷ 2 ∷ 0 ∷ 128 ∷ []) 0 ≡ I.Integer (pos 128)
-unfolding integerAt integerPart integerAllowed value
-one-hundred-twenty-eight = refl
 
 -- n lists within one another
 nested : ℕ → List ℕ → List ℕ

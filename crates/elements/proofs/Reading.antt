@@ -1,16 +1,16 @@
 -- What the tests of the reader show: where an element ends, one step after another. Assumes nothing.
-use mathlib.Core.Path.{_≡_, refl, sym, subst, ap, _∙_}
+use mathlib.Core.Path.{_≡_, sym, subst, ap, _∙_}
 use mathlib.Core.List.{List}
 use mathlib.Core.Bool.{Bool, true, false, cond, _&&_}
 use Prim.Native.Nat.{ℕ, zero, suc, _+_, _-_, _≤_, _<_}
 use native.Mathlib.Omega.{arith}
 use borrow.Author.Tests.{lt-ltb, le-ltb, eq-eqb, ne-eqb, ltb-true, eqb-true}
 use lib.ListN.{length, getD}
-use lib.Dec.{ltb, leb, eqb}
+use lib.Dec.{ltb, eqb}
 use Rattle.laws.proofs.Tests.{both-pass}
 use Rattle.laws.proofs.Choices.{cond-elim}
 use Rattle.answers.specs.declared.Refusal.{Refusal}
-use Rattle.answers.specs.declared.Refusal.the-variants.{BadHeader, TooDeep}
+use Rattle.answers.specs.declared.Refusal.the-variants.{TooDeep}
 use Rattle.elements.specs.declared.ElementAnswer.{ElementAnswer}
 use Rattle.elements.specs.declared.ElementAnswer.the-variants.{End, Refused}
 use Rattle.elements.specs.declared.SpanAnswer.{SpanAnswer}

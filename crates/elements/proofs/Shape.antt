@@ -1,10 +1,10 @@
 -- The forms of a header record are read exactly where source 001 has them; and what a form reads, the nesting reads too. Assumes nothing.
 use mathlib.Core.Path.{_≡_, refl, sym, subst, ap, _∙_}
 use mathlib.Core.List.{List}
-use mathlib.Core.Bool.{Bool, true, false, cond}
+use mathlib.Core.Bool.{true, cond}
 use Prim.Native.Nat.{ℕ, zero, suc, _+_, _≤_, _<_}
 use native.Mathlib.Omega.{arith}
-use borrow.Author.Tests.{le-leb, lt-leb, eq-eqb, ne-eqb, leb-true, eqb-true, eqb-false}
+use borrow.Author.Tests.{le-leb, ne-eqb, leb-true, eqb-true, eqb-false}
 use lib.ListN.{length, getD}
 use lib.Dec.{leb, eqb}
 use Rattle.laws.proofs.Tests.{never, bool-cases}
@@ -13,7 +13,7 @@ use Rattle.elements.specs.declared.ElementAnswer.{ElementAnswer}
 use Rattle.elements.specs.declared.ElementAnswer.the-variants.{End, Refused}
 use Rattle.elements.specs.declared.Form.{Form}
 use Rattle.elements.specs.declared.Form.the-variants as F
-use Rattle.elements.specs.Grammar.{inRange, mayBegin, fieldBody, identifierBody, objectBody, inside, mayFollow}
+use Rattle.elements.specs.Grammar.{inRange, mayBegin, identifierBody, inside, mayFollow}
 use Rattle.elements.specs.Reading.{closes, andThen, closedAt, listEnd, read}
 use Rattle.elements.specs.Statement.{Byte, IntegerElement, TextElement, ListElement, ChoiceElement, Nested}
 use Rattle.elements.specs.DefLines.{ObjectIdElement, IdentifierElement, FieldElement, RisingFields, DefLineElement, DefLinesElement}

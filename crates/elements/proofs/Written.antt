@@ -1,18 +1,15 @@
 -- The text and the integer at a place are those that the plain statement writes there. Assumes nothing.
-use mathlib.Core.Path.{_≡_, refl, sym, subst, ap, _∙_}
+use mathlib.Core.Path.{_≡_, sym, subst, ap, _∙_}
 use mathlib.Core.List.{List}
-use mathlib.Core.Bool.{true}
-use Prim.Native.Nat.{ℕ, _+_, _-_, _≤_, _<_}
+use Prim.Native.Nat.{ℕ, _+_, _-_, _≤_}
 use native.Mathlib.Omega.{arith}
 use borrow.Author.Tests.{lt-ltb, le-ltb, le-leb, eq-eqb}
 use lib.ListN.{length, getD, take, drop}
 use Rattle.laws.specs.Digits.{value}
 use Rattle.fields.specs.Number.{signed}
-use Rattle.elements.specs.declared.Span.{Span}
 use Rattle.elements.specs.declared.SpanAnswer.the-variants as S
 use Rattle.elements.specs.declared.IntegerAnswer.the-variants as I
-use Rattle.elements.specs.Grammar.{inRange}
-use Rattle.elements.specs.Parts.{span, bytesOf, partAt, integerPart, longPart, textPart, integerIn, integerAt, textAt}
+use Rattle.elements.specs.Parts.{span, bytesOf, partAt, integerPart, longPart, textPart, integerAt, textAt}
 use Rattle.elements.specs.Statement.{IntegerElement, TextElement}
 use Rattle.elements.specs.Statement as Z
 use Rattle.elements.specs.Written.{textWritten, integerWritten}

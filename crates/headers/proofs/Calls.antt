@@ -1,12 +1,11 @@
 -- The calls over one record: the check decides first. Assumes nothing.
-use mathlib.Core.Path.{_≡_, refl, sym, ap, _∙_}
-use mathlib.Core.List.{List, [], _∷_, _++_, append-nil, flatMap}
-use Prim.Native.Nat.{ℕ, suc, _+_, _-_, _≤_, _<_}
+use mathlib.Core.Path.{_≡_, refl}
+use mathlib.Core.List.{List, [], _∷_, append-nil, flatMap}
+use Prim.Native.Nat.{ℕ, suc, _+_, _≤_}
 use native.Mathlib.Omega.{arith}
 use lib.ListN.{length, take}
 use Rattle.answers.specs.declared.Refusal.{Refusal}
 use Rattle.answers.specs.declared.Checked.the-variants as C
-use Rattle.elements.specs.declared.Span.{Span}
 use Rattle.headers.specs.declared.TitleAnswer.{TitleAnswer}
 use Rattle.headers.specs.declared.TitleAnswer.the-variants as T
 use Rattle.headers.specs.declared.IdentifierAnswer.{IdentifierAnswer}

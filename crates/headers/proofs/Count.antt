@@ -1,13 +1,11 @@
 -- How many titles a record can have, and that number k of a list is below its length. Assumes nothing.
-use mathlib.Core.Path.{_≡_, refl, sym, _∙_}
-use mathlib.Core.List.{List, [], _∷_, _++_, flatMap}
-use mathlib.Core.Bool.{Bool}
+use mathlib.Core.Path.{_≡_, refl}
+use mathlib.Core.List.{List, [], _∷_, flatMap}
 use Prim.Native.Nat.{ℕ, zero, suc, _+_, _*_, _≤_, _<_}
 use native.Mathlib.Nat.{mul-le-mul}
 use native.Mathlib.Omega.{arith}
 use lib.ListN.{length, take, drop, length-append}
 use Rattle.laws.proofs.Choices.{cond-elim}
-use Rattle.answers.specs.declared.Refusal.the-variants.{NoSuchSequence}
 use Rattle.answers.specs.declared.Checked.{Checked}
 use Rattle.answers.specs.declared.Checked.the-variants as C
 use Rattle.elements.specs.declared.Span.{Span}
@@ -18,7 +16,6 @@ use Rattle.elements.specs.Reading.{closes, read}
 use Rattle.headers.specs.declared.Field.{Field}
 use Rattle.headers.specs.declared.Field.the-variants as L
 use Rattle.headers.specs.declared.TitleAnswer.the-variants as T
-use Rattle.headers.specs.declared.TitleSearch.{TitleSearch}
 use Rattle.headers.specs.declared.TitleSearch.the-variants as A
 use Rattle.headers.specs.Record.{checkRecord}
 use Rattle.headers.specs.Fields.{fromElement, elementsFrom, elementsIn, fieldAt, fieldTitles, titlesIn, titlesOf}

@@ -1,5 +1,5 @@
 -- Identifiers by their tags. Assumes nothing.
-use mathlib.Core.Path.{_≡_, refl, sym, subst, ap, _∙_}
+use mathlib.Core.Path.{_≡_, refl, subst}
 use mathlib.Core.List.{List}
 use Prim.Native.Nat.{ℕ, _+_, _≤_}
 use native.Mathlib.Omega.{arith}
@@ -7,7 +7,7 @@ use borrow.Author.Tests.{eq-eqb, ne-eqb}
 use lib.ListN.{length, getD}
 use mathlib.Core.Bool.{true}
 use mathlib.Core.List.{[], _∷_, flatMap}
-use Prim.Native.Nat.{zero, suc, _<_}
+use Prim.Native.Nat.{zero, suc}
 use Rattle.laws.specs.Digits.{allBelow}
 use Rattle.laws.proofs.Digits.{below-parts, below-cons, below-none, below-append}
 use Rattle.laws.proofs.Choices.{cond-elim}

@@ -1,21 +1,19 @@
 -- The record check, rule by rule, and where a record that passed lies. Assumes nothing.
-use mathlib.Core.Path.{_≡_, refl, sym, subst, ap, _∙_}
+use mathlib.Core.Path.{_≡_, refl, ap, _∙_}
 use mathlib.Core.List.{List}
-use mathlib.Core.Bool.{Bool, true, false, cond}
+use mathlib.Core.Bool.{true}
 use Prim.Native.Nat.{ℕ, _+_, _≤_, _<_}
 use native.Mathlib.Omega.{arith}
 use borrow.Author.Tests.{le-leb, lt-leb, eq-eqb, ne-eqb, leb-true, eqb-true}
 use lib.ListN.{length, take}
 use lib.Seq.{length-take-le}
-use lib.Dec.{leb, eqb}
-use Rattle.laws.specs.Rules.{AllHold}
 use Rattle.laws.proofs.Tests.{never}
-use Rattle.answers.specs.Limits.{bytesFit, checkedBy}
+use Rattle.answers.specs.Limits.{checkedBy}
 use Rattle.answers.specs.declared.Refusal.{Refusal}
 use Rattle.answers.specs.declared.Refusal.the-variants.{TooShort, BadHeader, TooLarge}
 use Rattle.answers.specs.declared.Checked.{Checked}
 use Rattle.answers.specs.declared.Checked.the-variants as C
-use Rattle.answers.proofs.Checks.{all-hold, holds-passed}
+use Rattle.answers.proofs.Checks.{all-hold}
 use Rattle.elements.specs.declared.ElementAnswer.{ElementAnswer}
 use Rattle.elements.specs.declared.ElementAnswer.the-variants.{End, Refused}
 use Rattle.elements.specs.declared.Form.the-variants as F

@@ -1,7 +1,7 @@
 -- The walks over def-lines, fields and identifiers: one turn passes one element. Assumes nothing.
-use mathlib.Core.Path.{_≡_, refl, sym, subst, ap, _∙_}
-use mathlib.Core.List.{List, [], _∷_, _++_, append-nil, flatMap}
-use mathlib.Core.Bool.{Bool, true, false, cond}
+use mathlib.Core.Path.{_≡_, refl, sym, ap, _∙_}
+use mathlib.Core.List.{List, [], _∷_, _++_, flatMap}
+use mathlib.Core.Bool.{true, false}
 use mathlib.Core.Logic.{⊎-elim}
 use Prim.Native.Nat.{ℕ, zero, suc, _+_, _-_, _≤_, _<_}
 use native.Mathlib.Omega.{arith}
@@ -20,17 +20,15 @@ use Rattle.elements.specs.declared.ElementAnswer.{ElementAnswer}
 use Rattle.elements.specs.declared.ElementAnswer.the-variants.{End, Refused}
 use Rattle.elements.specs.declared.Form.the-variants as F
 use Rattle.elements.specs.Parts.{textAt}
-use Rattle.elements.specs.Reading.{bad, closes, restOf, read}
+use Rattle.elements.specs.Reading.{bad, closes, read}
 use Rattle.elements.proofs.Reading.{closes-late, start-none, ends-within}
 use Rattle.headers.proofs.Field as K
 use Rattle.headers.specs.declared.Field.{Field}
 use Rattle.headers.specs.declared.Field.the-variants as L
-use Rattle.headers.specs.declared.TitleSearch.{TitleSearch}
 use Rattle.headers.specs.declared.TitleSearch.the-variants as A
-use Rattle.headers.specs.declared.PlaceSearch.{PlaceSearch}
 use Rattle.headers.specs.declared.PlaceSearch.the-variants as P
-use Rattle.headers.specs.Fields.{fromElement, elementsFrom, elementsIn, titleField, fieldAt, fieldTitles, fieldIdentifiers}
-use Rattle.headers.specs.Calls.{numbered, titleFrom, placeFrom}
+use Rattle.headers.specs.Fields.{fromElement, elementsFrom, titleField, fieldAt, fieldTitles, fieldIdentifiers}
+use Rattle.headers.specs.Calls.{numbered, placeFrom}
 
 -- ---- number k of two lists, one after the other
 

@@ -1,7 +1,6 @@
 -- Titles lie within the header file. Assumes nothing.
-use mathlib.Core.Path.{_≡_, refl, sym, subst, ap, _∙_}
+use mathlib.Core.Path.{_≡_, refl, subst}
 use mathlib.Core.List.{List, [], _∷_, _++_, flatMap}
-use mathlib.Core.Bool.{Bool}
 use Prim.Native.Nat.{ℕ, zero, suc, _+_, _≤_}
 use native.Mathlib.Nat.{min-le-right}
 use native.Mathlib.Omega.{arith}
@@ -16,9 +15,7 @@ use Rattle.elements.specs.declared.SpanAnswer.the-variants as S
 use Rattle.elements.specs.Parts.{textPart, textAt, Within}
 use Rattle.elements.proofs.Parts.{text-within}
 use Rattle.headers.specs.declared.Field.{Field}
-use Rattle.headers.specs.declared.Field.the-variants as L
 use Rattle.headers.specs.declared.FirstAnswer.the-variants as G
-use Rattle.headers.specs.declared.TitleSearch.{TitleSearch}
 use Rattle.headers.specs.declared.TitleSearch.the-variants as A
 use Rattle.headers.specs.Record.{checkRecord}
 use Rattle.headers.specs.Fields.{elementsIn, titleField, fieldAt, fieldTitles, titlesIn, firstTitles}

@@ -1,19 +1,17 @@
 -- The titles and the identifiers of a good record are those that it writes, none missed and none added. Assumes nothing.
-use mathlib.Core.Path.{_≡_, refl, sym, subst, ap, _∙_}
+use mathlib.Core.Path.{_≡_, refl, sym, ap, _∙_}
 use mathlib.Core.List.{List, [], _∷_, _++_, append-nil, flatMap}
-use mathlib.Core.Bool.{false}
 use Prim.Native.Nat.{ℕ, zero, suc, _+_, _-_, _≤_, _<_}
 use native.Mathlib.Omega.{arith}
 use borrow.Author.Tests.{eq-eqb, ne-eqb}
 use lib.ListN.{length, getD, take}
 use Rattle.answers.specs.declared.Refusal.the-variants.{NoSuchSequence}
-use Rattle.answers.specs.declared.Checked.the-variants as C
 use Rattle.elements.specs.declared.Span.{Span}
 use Rattle.elements.specs.declared.ElementAnswer.the-variants.{End, Refused}
 use Rattle.elements.specs.declared.Form.{Form}
 use Rattle.elements.specs.declared.Form.the-variants as F
-use Rattle.elements.specs.Parts.{integerAt, textAt}
-use Rattle.elements.specs.Reading.{closes, read}
+use Rattle.elements.specs.Parts.{textAt}
+use Rattle.elements.specs.Reading.{read}
 use Rattle.elements.specs.Statement.{Items}
 use Rattle.elements.specs.Statement as E
 use Rattle.elements.specs.DefLines.{ObjectIdElement, IdentifierElement, FieldElement, RisingFields, DefLineElement}
@@ -25,11 +23,10 @@ use Rattle.elements.proofs.Written.{text-written, integer-written}
 use Rattle.headers.specs.declared.TitleAnswer.the-variants as T
 use Rattle.headers.specs.declared.Identifier.{Identifier}
 use Rattle.headers.specs.declared.Identifier.the-variants as D
-use Rattle.headers.specs.declared.IdentifierAnswer.{IdentifierAnswer}
 use Rattle.headers.specs.declared.IdentifierAnswer.the-variants as I
 use Rattle.headers.specs.declared.Field.the-variants as L
 use Rattle.headers.specs.Statement.{GoodRecord}
-use Rattle.headers.specs.Fields.{elementsFrom, elementsIn, fieldAt, titleField, fieldTitles, fieldIdentifiers, titlesIn, titlesOf, identifiersIn, identifiersOf, firstTitles}
+use Rattle.headers.specs.Fields.{elementsFrom, fieldAt, titleField, fieldTitles, fieldIdentifiers, titlesIn, titlesOf, identifiersIn, identifiersOf, firstTitles}
 use Rattle.headers.specs.Calls.{numbered, titleFrom, titleGiven, titleOf, giAnswer, numberAnswer, textAnswer, localAt, identifierAt, placeFrom, identifierGiven, identifierOf, firstGiven, firstOf}
 use Rattle.headers.specs.Written.{fieldTitle, lineTitles, setTitles, titlesWritten, firstTitle, firstLine, firstWritten, objectWritten, identifierWritten, listIdentifiers, fieldIdentifier, lineIdentifiers, setIdentifiers, identifiersWritten}
 use Rattle.headers.proofs.Record.{good-passes}

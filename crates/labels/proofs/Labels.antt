@@ -1,7 +1,7 @@
 -- Labels: a sequence's own offsets, the rules before them, and that a label's part lies within its file. Assumes nothing.
 use mathlib.Core.Path.{_≡_, refl, sym, subst, ap, _∙_}
-use mathlib.Core.List.{List, []}
-use mathlib.Core.Bool.{Bool, true, false}
+use mathlib.Core.List.{List}
+use mathlib.Core.Bool.{true, false}
 use Prim.Native.Nat.{ℕ, _+_, _-_, _≤_, _<_}
 use native.Mathlib.Nat.{add-sub-cancel-left}
 use native.Mathlib.Omega.{arith}
@@ -10,7 +10,6 @@ use lib.Dec.{ltb, leb}
 use lib.IntN.{ℤ, pos, negsuc}
 use lib.ListN.{length, take, drop}
 use lib.Signed.{ltZ, leZ, nonNeg}
-use Rattle.laws.specs.Rules.{Rule, AllHold, verdict}
 use Rattle.laws.specs.Signed.{toNat}
 use Rattle.laws.proofs.Tests.{never}
 use Rattle.laws.proofs.Choices.{cond-elim}

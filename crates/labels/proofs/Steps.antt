@@ -1,7 +1,7 @@
 -- The record walker: a step's parts, and a walk of steps from no title given until none is left. Assumes nothing.
 use mathlib.Core.Path.{_≡_, refl, sym, ap, _∙_}
 use mathlib.Core.List.{List, [], _∷_}
-use Prim.Native.Nat.{ℕ, zero, suc, _+_, _-_, _≤_, _<_}
+use Prim.Native.Nat.{ℕ, zero, suc, _+_, _≤_}
 use native.Mathlib.Omega.{arith}
 use native.Mathlib.Numerals.{add-one}
 use borrow.Author.Tests.{ltb-true, ltb-false}
@@ -12,7 +12,6 @@ use Rattle.answers.specs.declared.Refusal.{Refusal}
 use Rattle.answers.specs.declared.Refusal.the-variants.{NoSuchSequence}
 use Rattle.answers.specs.declared.Checked.the-variants as C
 use Rattle.elements.specs.declared.Span.{Span}
-use Rattle.headers.specs.declared.TitleAnswer.{TitleAnswer}
 use Rattle.headers.specs.declared.TitleAnswer.the-variants as T
 use Rattle.headers.specs.declared.TitleSearch.the-variants as A
 use Rattle.headers.specs.Record.{checkRecord}
@@ -20,7 +19,6 @@ use Rattle.headers.specs.Fields.{titlesOf}
 use Rattle.headers.specs.Calls.{titleFrom, titleGiven, titleOf}
 use Rattle.headers.proofs.Calls.{title-passed}
 use Rattle.headers.proofs.Count.{title-found, title-left}
-use Rattle.labels.specs.declared.Place.{Place}
 use Rattle.labels.specs.declared.Step.{Step}
 use Rattle.labels.specs.Walker.{place, stepOf, stepThen, walked}
 

@@ -5,7 +5,7 @@ use mathlib.Core.Bool.{true}
 use Prim.Native.Nat.{ℕ, _+_, _≤_, _<_}
 use lib.IntN.{ℤ, pos}
 use lib.ListN.{length}
-use lib.Signed.{leZ, nonNeg, _≤ℤ_}
+use lib.Signed.{nonNeg, _≤ℤ_}
 use Rattle.laws.specs.Signed.{toNat}
 use Rattle.laws.proofs.Signed.{test-le, at-least-zero}
 use Rattle.headers.specs.Calls.{firstOf}
@@ -15,7 +15,7 @@ use Rattle.headers.proofs.Written.{first-is}
 use Rattle.volume.specs.declared.Index.{Index}
 use Rattle.volume.specs.declared.IndexAnswer.the-variants as X
 use Rattle.volume.specs.Index.{titleLength, sequences, headerTable, indexAnswer}
-use Rattle.volume.specs.Tables.{headerOffset, offsetAt}
+use Rattle.volume.specs.Tables.{headerOffset}
 use Rattle.labels.specs.Label.{recordLabel, offsetsLabel, labelOf}
 use Rattle.labels.proofs.Labels.{label-found}
 

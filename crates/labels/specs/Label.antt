@@ -4,7 +4,7 @@ use Prim.Native.Nat.{ℕ, _+_}
 use mathlib.Core.List.{List, [], _∷_}
 use lib.Dec.{ltb}
 use lib.IntN.{ℤ, pos}
-use lib.ListN.{length, take, drop}
+use lib.ListN.{length}
 use lib.Signed.{leZ, nonNeg}
 use Rattle.laws.specs.Rules.{Rule, ask, verdict}
 use Rattle.laws.specs.Signed.{toNat}
@@ -18,7 +18,6 @@ use Rattle.headers.specs.declared.FirstAnswer.the-variants as G
 use Rattle.headers.specs.Calls.{firstOf}
 use Rattle.volume.specs.Index.{titleStart, titleLength, sequences, headerTable, indexAnswer}
 use Rattle.volume.specs.Tables.{offsetAt}
-use Rattle.volume.specs.declared.Index.{Index}
 use Rattle.volume.specs.declared.IndexAnswer.{IndexAnswer}
 use Rattle.volume.specs.declared.IndexAnswer.the-variants as X
 use Rattle.labels.specs.declared.LabelAnswer.{LabelAnswer}

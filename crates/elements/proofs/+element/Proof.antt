@@ -17,7 +17,7 @@ use Rattle.elements.proofs.element.Kinds as element-kinds
 use Rattle.elements.proofs.+element.Lts-element as element-lts
 use Rattle.elements.proofs.closed.Reads as closed-reads
 use Rattle.elements.proofs.closes_at.Reads as closes-at-reads
-use Rattle.elements.proofs.may_follow.Reads as may-follow-reads
+use Rattle.elements.proofs.grammar.may_follow.Reads as may-follow-reads
 use Rattle.elements.proofs.start_of.Reads as start-of-reads
 use Rattle.elements.proofs.too_deep.Reads as too-deep-reads
 use Rattle.fields.proofs.byte.Reads as byte-reads

@@ -1,6 +1,5 @@
 -- `elements::closed`: a choice ends behind its 00 00. Assumes nothing.
 use native.Mathlib.Omega.{arith}
-use borrow.Author.Tests.{not-true}
 use mathlib.Core.Path.{sym, _∙_}
 use Rattle.elements.proofs.Reading.{closed-is, closes-within}
 use borrow.Author.Needs.{needs}

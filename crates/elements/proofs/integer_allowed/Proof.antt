@@ -4,10 +4,8 @@ use mathlib.Core.Bool.{_&&_}
 use lib.Dec.{leb}
 use Rattle.elements.specs.Parts.{bytesOf, integerAllowed}
 use borrow.Author.Tests.{lt-leb, le-leb}
-use mathlib.Core.Path.{_∙_}
 use denote.Ref.{now}
 use Rattle.elements.proofs.Parts.{bytes-length, allowed-is}
-use borrow.Author.Needs.{needs}
 use Rattle.elements.proofs.integer_allowed.Statement.{statement}
 use Rattle.elements.proofs.integer_allowed.Tie as tie
 

@@ -1,8 +1,5 @@
 -- `elements::part_at`: the test of the bytes left is the definition's test of the end. Assumes nothing.
 use Rattle.elements.proofs.Parts.{part-short, part-fits}
-use native.Mathlib.Omega.{arith}
-use borrow.Author.Tests.{le-leb, lt-leb}
-use Rattle.elements.specs.Parts.{partAt}
 use borrow.Author.Needs.{needs}
 use Rattle.elements.proofs.part_at.Statement.{statement}
 use Rattle.elements.proofs.part_at.Tie as tie

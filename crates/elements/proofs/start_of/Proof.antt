@@ -1,5 +1,4 @@
 -- `elements::start_of`: the tests are those of the definition, in its order. Assumes nothing.
-use native.Mathlib.Omega.{arith}
 use mathlib.Core.Path.{sym, _∙_}
 use mathlib.Core.Path.{ap}
 use borrow.Author.Tests.{not-true, not-false}

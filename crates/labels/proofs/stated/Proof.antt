@@ -2,7 +2,6 @@
 use mir.Syntax.{w32}
 use Rattle.laws.proofs.Signed.{bits-negative, bits-natural, bits-cast}
 use native.Mathlib.Omega.{arith}
-use borrow.Author.Needs.{needs}
 use Rattle.labels.proofs.stated.Statement.{statement}
 use Rattle.labels.proofs.stated.Tie as tie
 

@@ -1,7 +1,7 @@
--- `elements::may_follow`: each arm knows the form, and the definition computes there. Assumes nothing.
+-- `elements::grammar::form_inside`: each arm knows the form, and the definition computes there. Assumes nothing.
 use borrow.Author.Needs.{needs}
-use Rattle.elements.proofs.may_follow.Statement.{statement}
-use Rattle.elements.proofs.may_follow.Tie as tie
+use Rattle.elements.proofs.grammar.form_inside.Statement.{statement}
+use Rattle.elements.proofs.grammar.form_inside.Tie as tie
 
 enum-told : tie.Need-enum-told
 enum-told c = search needs
@@ -24,14 +24,23 @@ enum-told-6 c = search needs
 enum-told-7 : tie.Need-enum-told-7
 enum-told-7 c = search needs
 
+field-body-requires : tie.Need-field-body-requires
+field-body-requires c κs = search needs
+
 enum-told-8 : tie.Need-enum-told-8
 enum-told-8 c = search needs
 
 enum-told-9 : tie.Need-enum-told-9
 enum-told-9 c = search needs
 
+identifier-body-requires : tie.Need-identifier-body-requires
+identifier-body-requires c κs = search needs
+
 enum-told-10 : tie.Need-enum-told-10
 enum-told-10 c = search needs
+
+object-body-requires : tie.Need-object-body-requires
+object-body-requires c κs = search needs
 
 returns : tie.Need-returns
 returns c = search needs
@@ -49,22 +58,22 @@ returns-5 : tie.Need-returns-5
 returns-5 c = search needs
 
 returns-6 : tie.Need-returns-6
-returns-6 c = rw ((c .enum-told6) .given .1)
+returns-6 c = search needs
 
 returns-7 : tie.Need-returns-7
-returns-7 c = search needs
+returns-7 c = rw ((c .before .enum-told7) .given .1) ((c .field-body) .ensures)
 
 returns-8 : tie.Need-returns-8
 returns-8 c = search needs
 
 returns-9 : tie.Need-returns-9
-returns-9 c = search needs
+returns-9 c = rw ((c .before .enum-told9) .given .1) ((c .identifier-body) .ensures)
 
 returns-10 : tie.Need-returns-10
-returns-10 c = search needs
+returns-10 c = rw ((c .before .enum-told10) .given .1) ((c .object-body) .ensures)
 
-pub may-follow-spec : {M : Type 1} → statement M
-may-follow-spec =
+pub form-inside-spec : {M : Type 1} → statement M
+form-inside-spec =
     tie.close
     (tie.spec
     enum-told
@@ -74,9 +83,12 @@ may-follow-spec =
     enum-told-5
     enum-told-6
     enum-told-7
+    field-body-requires
     enum-told-8
     enum-told-9
+    identifier-body-requires
     enum-told-10
+    object-body-requires
     returns
     returns-2
     returns-3

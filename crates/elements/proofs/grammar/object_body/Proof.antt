@@ -1,8 +1,7 @@
--- `elements::object_body`: the tag is the test of the definition. Assumes nothing.
+-- `elements::grammar::object_body`: the tag is the test of the definition. Assumes nothing.
 use borrow.Author.Tests.{eq-eqb, ne-eqb}
-use borrow.Author.Needs.{needs}
-use Rattle.elements.proofs.object_body.Statement.{statement}
-use Rattle.elements.proofs.object_body.Tie as tie
+use Rattle.elements.proofs.grammar.object_body.Statement.{statement}
+use Rattle.elements.proofs.grammar.object_body.Tie as tie
 
 returns : tie.Need-returns
 returns c = rw (eq-eqb _ _ (c .if1 .taken))

@@ -1,8 +1,7 @@
--- `elements::in_range`: each end is a test of the definition. Assumes nothing.
+-- `elements::grammar::in_range`: each end is a test of the definition. Assumes nothing.
 use borrow.Author.Tests.{lt-leb, le-leb}
-use borrow.Author.Needs.{needs}
-use Rattle.elements.proofs.in_range.Statement.{statement}
-use Rattle.elements.proofs.in_range.Tie as tie
+use Rattle.elements.proofs.grammar.in_range.Statement.{statement}
+use Rattle.elements.proofs.grammar.in_range.Tie as tie
 
 returns : tie.Need-returns
 returns c = rw (lt-leb _ _ (c .if1 .taken))
