@@ -1,4 +1,5 @@
 pub mod Demand1
+pub mod LargeFirst
 pub mod Table
 pub mod Demand2Packets
 pub mod Demand3

@@ -73,3 +73,15 @@ pub record Answered {A : Type 0} (number : ℕ) (values : List A) : Type 0 where
 -- A refusal writes nowhere: a lent range is as it was.
 abbrev pub Kept : ℕ → List ℕ → List ℕ → Type 0
 Kept number before after = Refuses number → after ≡ before
+
+-- An input range is over 2,147,483,647 bytes, or over 536,870,912 packets.
+abbrev pub LargeBytes : List ℕ → Type 0
+LargeBytes bytes = 2147483647 < length bytes
+
+abbrev pub LargePackets : List ℕ → Type 0
+LargePackets packets = 536870912 < length packets
+
+-- One of several input ranges is.
+abbrev pub SomeLarge : List (List ℕ) → Type 0
+SomeLarge [] = ⊥
+SomeLarge (bytes ∷ ranges) = LargeBytes bytes ⊎ SomeLarge ranges
