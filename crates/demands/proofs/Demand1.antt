@@ -1,5 +1,6 @@
 -- Demand 1: the number of every public call is 0 or one of document 01's table, a refusal returns its number only, and a refusal leaves every lent
--- range as it was. An answer is a case without a number, or a refusal with its cause: so one law of causes serves all calls.
+-- range as it was. An answer is a success, whose number is 0, or a refusal with its cause: so one law of causes serves all calls. Public functions
+-- without an answer, as `sequence_length` and `is_run`, refuse nothing.
 -- Assumes nothing.
 use mathlib.Core.Path.{_≡_, refl}
 use mathlib.Core.Bool.{true}
@@ -162,12 +163,12 @@ label-answered index header (Label.Refused r) = refused r
 -- ---- what a refusal leaves
 
 packed-kept : (x : PackAnswer) (new old : List ℕ) → Kept (packNumber x) old (ifPacked x new old)
-packed-kept (Pack.Packed n l) new old n′ = absurd (n′ refl)
-packed-kept (Pack.Refused r) new old n′ = refl
+packed-kept (Pack.Packed n l) new old refuses = absurd (refuses refl)
+packed-kept (Pack.Refused r) new old refuses = refl
 
 unpacked-kept : (x : UnpackAnswer) (codes out : List ℕ) → Kept (unpackNumber x) out (ifUnpacked x codes out)
-unpacked-kept (Unpack.Unpacked n l) codes out n′ = absurd (n′ refl)
-unpacked-kept (Unpack.Refused r) codes out n′ = refl
+unpacked-kept (Unpack.Unpacked n l) codes out refuses = absurd (refuses refl)
+unpacked-kept (Unpack.Refused r) codes out refuses = refl
 
 -- a results range: a refusal has no values to put there
 results-kept : (number : ℕ) (values results : List ℕ) → Answered number values → Kept number results (resultsPut values results)
