@@ -32,6 +32,13 @@ store-next f p n x d h e =
     ap (λ (i : ℕ). (take p d ++ listTo f (n + 1)) ++ drop (p + i) d) m ∙ rw (g, r) (simp append-assoc) in
     ap (λ (t : List ℕ). set t (p + n) x) a ∙ (set-at (take p d ++ xs) (getD d (p + n) 0) (drop (p + n + 1) d) x (p + n) k ∙ (rw e (sym b)))
 
+-- the same from the front
+pub store-front : (f : ℕ → ℕ) (n x : ℕ) (d : List ℕ) → n < length d → x ≡ f n
+    → set (writtenAt 0 (listTo f n) d) n x ≡ writtenAt 0 (listTo f (n + 1)) d
+store-front f n x d h e =
+    let z : 0 + n ≡ n = zero-add n in
+    sym (ap (λ (i : ℕ). set (writtenAt 0 (listTo f n) d) i x) z) ∙ store-next f 0 n x d (omega arith) e
+
 -- what is written within a list leaves what follows it
 pub written-append : (p : ℕ) (new a b : List ℕ) → p + length new ≤ length a → writtenAt p new (a ++ b) ≡ writtenAt p new a ++ b
 written-append p new a b h =

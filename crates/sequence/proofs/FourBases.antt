@@ -1,0 +1,52 @@
+-- Two-bit residues as the loops read and store them. Assumes nothing.
+use mathlib.Core.Path.{_≡_, refl, sym, ap, _∙_}
+use mathlib.Core.List.{List, [], _∷_}
+use Prim.Native.Nat.{ℕ, _+_, _*_, _/_, _%_, _-_, _≤_, _<_}
+use native.Mathlib.Omega.{arith}
+use lib.ListN.{length, getD, set}
+use Rattle.laws.specs.Digits.{digits}
+use Rattle.laws.specs.Places.{listTo}
+use Rattle.laws.specs.Writing.{writtenAt}
+use Rattle.laws.proofs.Storing.{store-front}
+use Rattle.sequence.specs.Bases.{basesOf, baseAt, twoBitResidues}
+
+list₄ : {a b c d x y z w : ℕ} → a ≡ x → b ≡ y → c ≡ z → d ≡ w → _≡_ {A = List ℕ} (a ∷ b ∷ c ∷ d ∷ []) (x ∷ y ∷ z ∷ w ∷ [])
+list₄ e f g h = rw (e, f, g, h)
+
+-- the four bases of a byte, by division
+pub four-bases : (byte : ℕ) → byte < 256 → byte / 64 ∷ byte / 16 % 4 ∷ byte / 4 % 4 ∷ byte % 4 ∷ [] ≡ basesOf byte
+unfolding digits
+four-bases byte h =
+    let a : byte / 64 ≡ byte / 64 % 4 = omega arith in
+    let d : byte % 4 ≡ byte / 1 % 4 = omega arith in
+    list₄ a refl refl d
+
+-- residue k, by its byte m and its place j in that byte
+pub base-is : (sequence : List ℕ) (start k m j : ℕ) → k ≡ 4 * m + j → j < 4
+    → getD (basesOf (getD sequence (start + m) 0)) j 0 ≡ baseAt sequence start k
+unfolding baseAt
+base-is sequence start k m j e h =
+    let a : k / 4 ≡ m = omega arith in
+    let b : k % 4 ≡ j = omega arith in
+    rw (a, b)
+
+-- the four bases of byte m stored behind those of the bytes before
+pub four-stored : (sequence : List ℕ) (start m : ℕ) (four d : List ℕ) → 4 * m + 4 ≤ length d → four ≡ basesOf (getD sequence (start + m) 0)
+    → set
+    (set (set (set (writtenAt 0 (twoBitResidues sequence start (4 * m)) d) (4 * m) (getD four 0 0)) (4 * m + 1) (getD four 1 0)) (4 * m + 2) (getD four 2 0))
+    (4 * m + 3)
+    (getD four 3 0)
+    ≡ writtenAt 0 (twoBitResidues sequence start (4 * (m + 1))) d
+four-stored sequence start m four d h e =
+    let f = baseAt sequence start in
+    let n = 4 * m in
+    let base : (k j : ℕ) → k ≡ 4 * m + j → j < 4 → getD four j 0 ≡ f k =
+    λ k j i l. ap (λ (b : List ℕ). getD b j 0) e ∙ base-is sequence start k m j i l in
+    let a = store-front f n (getD four 0 0) d (omega arith) (base n 0 (omega arith) (omega arith)) in
+    let b = store-front f (n + 1) (getD four 1 0) d (omega arith) (base (n + 1) 1 refl (omega arith)) in
+    let g : n + 2 ≡ n + 1 + 1 = omega arith in
+    let c = store-front f (n + 2) (getD four 2 0) d (omega arith) (base (n + 2) 2 refl (omega arith)) in
+    let i : n + 3 ≡ n + 2 + 1 = omega arith in
+    let x = store-front f (n + 3) (getD four 3 0) d (omega arith) (base (n + 3) 3 refl (omega arith)) in
+    let y : 4 * (m + 1) ≡ n + 3 + 1 = omega arith in
+    rw (a, b, ← g, c, ← i, x, y)

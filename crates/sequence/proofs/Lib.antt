@@ -1,0 +1,5 @@
+pub mod FourBases
+pub mod Own
+pub mod Ranges
+pub mod Corrected
+pub mod Answers

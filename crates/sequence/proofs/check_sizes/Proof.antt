@@ -1,0 +1,17 @@
+-- `sequence::check_sizes`: each test is the rule of the same place in the list. Assumes nothing.
+use borrow.Author.Tests.{le-leb, lt-leb}
+use borrow.Author.Needs.{needs}
+use Rattle.sequence.proofs.check_sizes.Statement.{statement}
+use Rattle.sequence.proofs.check_sizes.Tie as tie
+
+returns : tie.Need-returns
+returns c = rw (lt-leb _ _ ((c .if1) .taken))
+
+returns-2 : tie.Need-returns-2
+returns-2 c = rw (le-leb _ _ ((c .before .if1) .left), lt-leb _ _ ((c .if2) .taken))
+
+returns-3 : tie.Need-returns-3
+returns-3 c = rw (le-leb _ _ ((c .before .if1) .left), le-leb _ _ ((c .if2) .left))
+
+pub check-sizes-spec : {M : Type 1} → statement M
+check-sizes-spec = tie.close (tie.spec returns returns-2 returns-3)
