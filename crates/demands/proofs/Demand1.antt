@@ -31,6 +31,9 @@ use Rattle.volume.specs.Volume.{volumeAnswer, volumeNumber, volumeValues}
 use Rattle.volume.specs.declared.IndexAnswer.the-variants as Index
 use Rattle.volume.specs.declared.VolumeAnswer.{VolumeAnswer}
 use Rattle.volume.specs.declared.VolumeAnswer.the-variants as Volume
+use Rattle.sequence.specs.Sequence.{residuesOf, decodeAnswer, writtenBy, decodeOutput, decodeNumber, decodeValues}
+use Rattle.sequence.specs.declared.DecodeAnswer.{DecodeAnswer}
+use Rattle.sequence.specs.declared.DecodeAnswer.the-variants as Decode
 use Rattle.dsqdata.specs.Check.{setCheck, setNumber, setValues}
 use Rattle.dsqdata.specs.Lookup.{lookupOf, lookupNumber, lookupValues}
 use Rattle.dsqdata.specs.declared.SetRecord.{SetRecord}
@@ -122,6 +125,10 @@ volume-answered : (x : VolumeAnswer) → Answered (volumeNumber x) (volumeValues
 volume-answered (Volume.Passed v) = fine (volumeValues (Volume.Passed v))
 volume-answered (Volume.Refused r) = refused r
 
+decode-answered : (x : DecodeAnswer) → Answered (decodeNumber x) (decodeValues x)
+decode-answered (Decode.Decoded l) = fine (decodeValues (Decode.Decoded l))
+decode-answered (Decode.Refused r) = refused r
+
 set-answered : (x : SetAnswer) → Answered (setNumber x) (setValues x)
 set-answered (Set.Passed s) = fine (setValues (Set.Passed s))
 set-answered (Set.Refused r) = refused r
@@ -169,6 +176,10 @@ packed-kept (Pack.Refused r) new old refuses = refl
 unpacked-kept : (x : UnpackAnswer) (codes out : List ℕ) → Kept (unpackNumber x) out (ifUnpacked x codes out)
 unpacked-kept (Unpack.Unpacked n l) codes out refuses = absurd (refuses refl)
 unpacked-kept (Unpack.Refused r) codes out refuses = refl
+
+decoded-kept : (x : DecodeAnswer) (residues out : List ℕ) → Kept (decodeNumber x) out (writtenBy x residues out)
+decoded-kept (Decode.Decoded l) residues out refuses = absurd (refuses refl)
+decoded-kept (Decode.Refused r) residues out refuses = refl
 
 -- a results range: a refusal has no values to put there
 results-kept : (number : ℕ) (values results : List ℕ) → Answered number values → Kept number results (resultsPut values results)
@@ -276,6 +287,15 @@ gull-check-volume-call index sequence header results =
     let answer = consoleVolume index sequence header (length results) in
     let a = volume-answered answer in
     (a, results-kept (volumeNumber answer) (volumeValues answer) results a)
+
+-- `decode` and its output; `gull_time_decode` answers the same
+pub decode-call : (index sequence : List ℕ) (number : ℕ) (out : List ℕ) →
+    let answer = decodeAnswer index sequence number (length out) in
+    Answered (decodeNumber answer) (decodeValues answer) × Kept (decodeNumber answer) out (decodeOutput index sequence number out)
+unfolding decodeOutput
+decode-call index sequence number out =
+    let answer = decodeAnswer index sequence number (length out) in
+    (decode-answered answer, decoded-kept answer (residuesOf index sequence number) out)
 
 -- ---- sets
 

@@ -13,6 +13,7 @@ use Rattle.answers.specs.declared.Checked.the-variants as Check
 use Rattle.runs.specs.Answers.{packAnswer, packNumber, unpackAnswer, unpackNumber}
 use Rattle.runs.specs.Bytes.{packBytesAnswer, unpackBytesAnswer}
 use Rattle.volume.specs.Volume.{volumeRules, volumeAnswer, volumeNumber}
+use Rattle.sequence.specs.Sequence.{decodeRules, decodeAnswer, decodeNumber}
 use Rattle.dsqdata.specs.Check.{sizeRules, fileRules, setRules, setCheck, setNumber}
 use Rattle.dsqdata.specs.Lookup.{lookupRules, lookupOf, lookupNumber}
 use Rattle.dsqdata.specs.declared.SetRecord.{SetRecord}
@@ -81,6 +82,10 @@ module _ (index sequence header : List ℕ) (h : SomeLarge (index ∷ sequence �
   pub gull-check-volume-large : (room : ℕ) → volumeNumber (consoleVolume index sequence header room) ≡ 22
   unfolding consoleVolume volumeRules
   gull-check-volume-large room = ap volumeNumber (three _ index sequence header _ h)
+
+pub decode-large : (index sequence : List ℕ) (number room : ℕ) → SomeLarge (index ∷ sequence ∷ []) → decodeNumber (decodeAnswer index sequence number room) ≡ 22
+unfolding decodeAnswer decodeRules
+decode-large index sequence number room h = ap decodeNumber (two _ index sequence _ h)
 
 module _ (index metadata sequence : List ℕ) (h : SomeLarge (index ∷ metadata ∷ sequence ∷ [])) where
   pub check-set-large : setNumber (setCheck index metadata sequence) ≡ 22

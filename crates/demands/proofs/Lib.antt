@@ -3,3 +3,4 @@ pub mod LargeFirst
 pub mod Table
 pub mod Demand2Packets
 pub mod Demand3
+pub mod Demand2

@@ -1,3 +1,4 @@
 pub mod Numbers
 pub mod Packets
 pub mod Cases
+pub mod Sequences

@@ -3,3 +3,4 @@ pub mod Own
 pub mod Ranges
 pub mod Corrected
 pub mod Answers
+pub mod Passed
