@@ -24,6 +24,17 @@ static const char usage[] =
 
 enum form { PLAIN, JSON, QUIET };
 
+/* Whether a line of progress stands on the terminal. */
+static int shown;
+
+/* Takes the line of progress away, before anything else is written. */
+static void clear_progress(void)
+{
+    if (shown)
+        fputs("\r\033[K", stderr);
+    shown = 0;
+}
+
 /* A volume's three files, and what is known of each before it is opened. */
 struct volume {
     char name[3][4096 + 8];
@@ -42,6 +53,7 @@ static int same(const struct stat *a, const struct stat *b)
 /* A line for a volume that got no answer. */
 static int trouble(enum form form, const char *volume, const char *file, const char *what)
 {
+    clear_progress();
     if (form == JSON) {
         fputs("{\"volume\":", stdout);
         gull_quote(stdout, (const uint8_t *)volume, strlen(volume), 1);
@@ -145,6 +157,7 @@ static int check(enum form form, const char *base, size_t base_len, char kind)
         uint8_t results[GULL_CHECK_VOLUME_RESULTS];
         uint32_t answer = gull_check_volume(v.file[0].at, v.file[0].len, v.file[1].at, v.file[1].len, v.file[2].at,
                                             v.file[2].len, results, sizeof results);
+        clear_progress();
         if (answer != GULL_OK)
             tell_refused(form, v.name[0], answer);
         else if (form != QUIET)
@@ -200,12 +213,11 @@ static int check_words(enum form form, int words, char **word)
     int status = EXIT_PASSED, progress = words > 1 && isatty(STDERR_FILENO);
     for (int k = 0; k < words; k++) {
         if (progress)
-            fprintf(stderr, "\r\033[Kgullcheck: %d of %d: %s", k + 1, words, word[k]);
+            shown = fprintf(stderr, "\r\033[Kgullcheck: %d of %d: %s", k + 1, words, word[k]) > 0;
         int one = check_word(form, word[k]);
         status = one > status ? one : status;
     }
-    if (progress)
-        fputs("\r\033[K", stderr);
+    clear_progress();
     return status;
 }
 
