@@ -1,4 +1,3 @@
 pub mod Numbers
 pub mod Packets
 pub mod Cases
-pub mod Sequences

@@ -4,3 +4,4 @@ pub mod Ranges
 pub mod Corrected
 pub mod Answers
 pub mod Passed
+pub mod Checked

@@ -1,3 +1,4 @@
 pub mod Bases
 pub mod Corrections
 pub mod Sequence
+pub mod Checked

@@ -1,4 +1,4 @@
--- What decoding can answer for a sequence of a volume that passes the volume check.
+-- What decoding can answer for a sequence of a volume that passes the volume check. proofs/Checked.antt shows it.
 -- Assumes nothing.
 use mathlib.Core.Path.{_≡_}
 use mathlib.Core.List.{List}
