@@ -5,3 +5,4 @@ pub mod Corrected
 pub mod Answers
 pub mod Passed
 pub mod Checked
+pub mod Given

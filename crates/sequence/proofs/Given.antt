@@ -1,0 +1,129 @@
+-- What a sequence that decodes leaves in the output, place by place. Assumes nothing.
+use mathlib.Core.Path.{_≡_, refl, sym, ap, _∙_}
+use mathlib.Core.Bool.{true, false}
+use mathlib.Core.List.{List, _++_}
+use Prim.Native.Nat.{ℕ, _+_, _-_, _≤_, _<_}
+use native.Mathlib.Omega.{arith}
+use borrow.Author.Tests.{leb-true}
+use lib.ListN.{length, getD, drop, List·getD-append}
+use lib.Seq.{getD-append-add, getD-drop}
+use Rattle.laws.specs.Places.{listTo}
+use Rattle.laws.specs.Rules.{Rule, verdict, AllHold}
+use Rattle.laws.specs.Writing.{writtenAt}
+use Rattle.laws.proofs.Places.{length-listTo, listTo-at}
+use Rattle.laws.proofs.Passing.{passes-with}
+use Rattle.laws.proofs.Rules.{hold-second, hold-first}
+use Rattle.laws.proofs.Storing.{written-start}
+use Rattle.answers.specs.declared.Refusal.{Refusal}
+use Rattle.answers.proofs.Numbers.{number-not-zero}
+use Rattle.residues.specs.Tables.{proteinCode}
+use Rattle.volume.specs.Index.{isProtein, indexRules}
+use Rattle.volume.specs.Tables.{sequenceStart, proteinLength, dnaEnd, dnaLength, sequenceLength}
+use Rattle.sequence.specs.declared.DecodeAnswer.{DecodeAnswer}
+use Rattle.sequence.specs.declared.DecodeAnswer.the-variants.{Decoded, Refused}
+use Rattle.sequence.specs.Bases.{baseAt}
+use Rattle.sequence.specs.Corrections.{entryWidth, entryCount, correctedAt, tableRules}
+use Rattle.sequence.specs.Sequence.{byteFrom, rangeEnd, numberRules, dnaEntryRules, dnaRules, sequenceRules, roomRules, ownRules, decodeSizeRules, decodeRules, decodeAnswer, decodeNumber, decodeValues, proteinCodes, dnaCodes, residuesOf, writtenBy, decodeOutput}
+use Rattle.sequence.proofs.Answers.{residues-protein, residues-dna, output-by}
+use Rattle.sequence.proofs.Corrected.{length-residues, residue-at}
+
+decoded-not : (l : ℕ) (r : Refusal) → Refused r ≡ Decoded l → ⊥
+decoded-not l r e = let z : _≡_ {A = ℕ} 0 1 = cc in omega arith
+
+decoded-as : (x : DecodeAnswer) → decodeNumber x ≡ 0 → (l : ℕ) × (x ≡ Decoded l)
+decoded-as (Decoded l) e = (l, refl)
+decoded-as (Refused r) e = absurd (number-not-zero r e)
+
+-- a list written at the start, by place
+written-front : (new old : List ℕ) (k d : ℕ) → k < length new → getD (writtenAt 0 new old) k d ≡ getD new k d
+written-front new old k d h = ap (λ (xs : List ℕ). getD xs k d) (written-start new old) ∙ List·getD-append new (drop (length new) old) d k h
+
+written-behind : (new old : List ℕ) (k d : ℕ) → length new ≤ k → getD (writtenAt 0 new old) k d ≡ getD old k d
+written-behind new old k d h =
+    let e : length new + (k - length new) ≡ k = omega arith in
+    let a : getD (new ++ drop (length new) old) (length new + (k - length new)) d ≡ getD old (length new + (k - length new)) d =
+    getD-append-add new (drop (length new) old) (k - length new) d ∙ getD-drop (length new) old (k - length new) d in
+    ap (λ (xs : List ℕ). getD xs k d) (written-start new old) ∙ (rw e at a)
+
+module _ (index sequence : List ℕ) (i : ℕ) (output : List ℕ) (decodes : decodeNumber (decodeAnswer index sequence i (length output)) ≡ 0) where
+  abbrev L : ℕ
+  L = sequenceLength index sequence i
+
+  all : AllHold (decodeRules index sequence i (length output)) × (decodeAnswer index sequence i (length output) ≡ Decoded L)
+  unfolding decodeAnswer
+  all =
+      let p = decoded-as (decodeAnswer index sequence i (length output)) decodes in
+      let q = passes-with Refused (Decoded L) (Decoded (p .0)) (decoded-not (p .0)) (decodeRules index sequence i (length output)) (p .1) in
+      (q .0, p .1 ∙ sym (q .1))
+
+  -- L is returned
+  pub decoded-values : decodeValues (decodeAnswer index sequence i (length output)) ≡ decodeValues (Decoded L)
+  decoded-values = ap decodeValues (all .1)
+
+  own-hold : AllHold (sequenceRules index sequence i ++ roomRules L (length output))
+  unfolding decodeRules
+  own-hold =
+      let own = ownRules index sequence i (length output) in
+      let a = hold-second (decodeSizeRules index sequence) (indexRules index ++ own) (all .0) in
+      hold-second (numberRules index i) (sequenceRules index sequence i ++ roomRules L (length output)) (hold-second (indexRules index) own a)
+
+  -- the output has room for the codes
+  pub decoded-room : L ≤ length output
+  decoded-room = leb-true L (length output) (hold-second (sequenceRules index sequence i) (roomRules L (length output)) own-hold .0)
+
+  decoded-output : decodeOutput index sequence i output ≡ writtenAt 0 (residuesOf index sequence i) output
+  decoded-output = sym (output-by index sequence i output (Decoded L) (sym (all .1)))
+
+  -- ---- protein
+
+  module _ (t : isProtein index ≡ true) where
+    protein-output : decodeOutput index sequence i output ≡ writtenAt 0 (proteinCodes index sequence i) output
+    protein-output = decoded-output ∙ ap (λ (codes : List ℕ). writtenAt 0 codes output) (sym (residues-protein index sequence i t))
+
+    protein-count : length (proteinCodes index sequence i) ≡ proteinLength index i
+    protein-count = length-listTo (λ (k : ℕ). proteinCode (byteFrom sequence (sequenceStart index i) k)) (proteinLength index i)
+
+    -- the code of each byte
+    pub protein-decoded : (k d : ℕ) → k < proteinLength index i
+        → getD (decodeOutput index sequence i output) k d ≡ proteinCode (getD sequence (sequenceStart index i + k) 0)
+    protein-decoded k d h =
+        let n = protein-count in
+        ap (λ (xs : List ℕ). getD xs k d) protein-output
+        ∙ written-front (proteinCodes index sequence i) output k d (omega arith)
+        ∙ listTo-at (λ (j : ℕ). proteinCode (byteFrom sequence (sequenceStart index i) j)) (proteinLength index i) k d h
+
+    -- and the rest as it was
+    pub protein-rest : (k d : ℕ) → proteinLength index i ≤ k → getD (decodeOutput index sequence i output) k d ≡ getD output k d
+    protein-rest k d h =
+        let n = protein-count in
+        ap (λ (xs : List ℕ). getD xs k d) protein-output ∙ written-behind (proteinCodes index sequence i) output k d (omega arith)
+
+  -- ---- DNA
+
+  module _ (t : isProtein index ≡ false) where
+    dna-output : decodeOutput index sequence i output ≡ writtenAt 0 (dnaCodes index sequence i) output
+    dna-output = decoded-output ∙ ap (λ (codes : List ℕ). writtenAt 0 codes output) (sym (residues-dna index sequence i t))
+
+    range-holds : AllHold (tableRules sequence (dnaEnd index i) (rangeEnd index i) (dnaLength index sequence i))
+    range-holds =
+        let a = hold-first (sequenceRules index sequence i) (roomRules L (length output)) own-hold in
+        let b : AllHold (dnaRules index sequence i) = rw t at a in
+        hold-second (dnaEntryRules index sequence i) (tableRules sequence (dnaEnd index i) (rangeEnd index i) (dnaLength index sequence i)) b
+
+    dna-count : length (dnaCodes index sequence i) ≡ dnaLength index sequence i
+    dna-count = length-residues sequence (sequenceStart index i) (dnaEnd index i) (rangeEnd index i) (dnaLength index sequence i) range-holds
+
+    -- the code of the entry that covers the place, or the base
+    pub dna-decoded : (k d : ℕ) → k < dnaLength index sequence i
+        → getD (decodeOutput index sequence i output) k d
+        ≡ correctedAt sequence (dnaEnd index i + 4) (entryWidth sequence (dnaEnd index i)) (entryCount sequence (dnaEnd index i) (rangeEnd index i)) k (baseAt sequence (sequenceStart index i) k)
+    dna-decoded k d h =
+        let n = dna-count in
+        ap (λ (xs : List ℕ). getD xs k d) dna-output
+        ∙ written-front (dnaCodes index sequence i) output k d (omega arith)
+        ∙ residue-at sequence (sequenceStart index i) (dnaEnd index i) (rangeEnd index i) (dnaLength index sequence i) range-holds k d h
+
+    pub dna-rest : (k d : ℕ) → dnaLength index sequence i ≤ k → getD (decodeOutput index sequence i output) k d ≡ getD output k d
+    dna-rest k d h =
+        let n = dna-count in
+        ap (λ (xs : List ℕ). getD xs k d) dna-output ∙ written-behind (dnaCodes index sequence i) output k d (omega arith)
