@@ -29,6 +29,8 @@ programs: lib
 	    echo "$(CC) $$p"; \
 	    $(CC) $(STRICT) $(CFLAGS) -o build/bin/$$p console/$$p.c console/gull.c build/libgullcordage.a || exit 1; \
 	done
+	rt check list
+	cp target/bin/list build/bin/list
 
 demo:
 	@sh console/demo
@@ -50,7 +52,7 @@ install: lib programs
 	install -d $(DESTDIR)$(PREFIX)/include $(DESTDIR)$(PREFIX)/lib $(DESTDIR)$(PREFIX)/bin
 	install -m 644 include/gullcordage.h $(DESTDIR)$(PREFIX)/include/
 	install -m 644 build/libgullcordage.a $(DESTDIR)$(PREFIX)/lib/
-	install -m 755 $(PROGRAMS:%=build/bin/%) $(DESTDIR)$(PREFIX)/bin/
+	install -m 755 $(PROGRAMS:%=build/bin/%) build/bin/list $(DESTDIR)$(PREFIX)/bin/
 
 clean:
 	rm -rf target build second/target

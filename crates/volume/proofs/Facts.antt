@@ -1,13 +1,17 @@
--- What an index that was read says, and NULs at the end of a timestamp. Assumes nothing.
+-- What an index that was read says, NULs at the end of a timestamp, and where the tables lie. Assumes nothing.
 use mathlib.Core.Path.{_≡_, sym, ap, _∙_}
 use mathlib.Core.List.{List, _++_}
 use Prim.Native.Nat.{ℕ, suc, _+_, _-_, _≤_, _<_}
+use mathlib.Core.Bool.{false}
 use native.Mathlib.Omega.{arith}
 use borrow.Author.Tests.{leb-true, eq-eqb, ne-eqb}
-use lib.ListN.{getD}
+use lib.ListN.{length, getD, take, drop}
+use lib.Seq.{getD-take, getD-drop}
 use Rattle.laws.specs.Rules.{AllHold}
+use Rattle.laws.proofs.Choices.{cond-elim}
+use Rattle.fields.specs.Number.{big, signed, signedAt, unsignedAt}
 use Rattle.laws.proofs.Rules.{hold-first, hold-second}
-use Rattle.volume.specs.Index.{sequences, mostSequences, titleRules, timestampRules, countRules, tableRules, indexRules}
+use Rattle.volume.specs.Index.{isProtein, tableSize, ambiguityTable, tablesEnd, sequences, mostSequences, titleRules, timestampRules, countRules, tableRules, indexRules}
 use Rattle.volume.specs.Volume.{trimmedLength}
 
 -- the rules of an index hold part by part
@@ -43,3 +47,33 @@ module _ (file : List ℕ) (start n : ℕ) (h : 0 < n) where
 
   pub trim-stop : (getD file (start + (n - 1)) 0 ≡ 0 → ⊥) → trimmedLength file start n ≡ n
   trim-stop e = ap (trimmedLength file start) last ∙ rw (ne-eqb _ _ e) (sym last)
+
+-- ---- the tables of an index lie inside it
+
+pub whole-tables : (index : List ℕ) → AllHold (indexRules index) → tablesEnd index ≤ length index
+whole-tables index h = leb-true _ _ (index-parts index h .tables .0)
+
+-- two of them for every type
+pub two-tables : (index : List ℕ) → ambiguityTable index ≤ tablesEnd index
+two-tables index =
+    cond-elim (λ (end : ℕ). ambiguityTable index ≤ end) (isProtein index) {x = ambiguityTable index} {y = ambiguityTable index + tableSize index}
+    (λ _. omega arith) (λ _. omega arith)
+
+-- the third one for DNA
+pub third-table : (index : List ℕ) → isProtein index ≡ false → tablesEnd index ≡ ambiguityTable index + tableSize index
+third-table index e = rw e
+
+-- ---- a field of four bytes, read from a part of the file
+
+part-byte : (file : List ℕ) (at k : ℕ) → k < 4 → getD (take 4 (drop at file)) k 0 ≡ getD file (at + k) 0
+part-byte file at k h = getD-take 4 (drop at file) k 0 h ∙ getD-drop at file k 0
+
+pub part-unsigned : (file : List ℕ) (at end : ℕ) → end ≡ at + 4 → unsignedAt big 4 (take (end - at) (drop at file)) 0 ≡ unsignedAt big 4 file at
+unfolding unsignedAt
+part-unsigned file at end e =
+    let four : end - at ≡ 4 = omega arith in
+    rw (four, part-byte file at 0 (omega arith), part-byte file at 1 (omega arith), part-byte file at 2 (omega arith), part-byte file at 3 (omega arith))
+
+pub part-field : (file : List ℕ) (at end : ℕ) → end ≡ at + 4 → signedAt big 4 (take (end - at) (drop at file)) 0 ≡ signedAt big 4 file at
+unfolding signedAt
+part-field file at end e = ap (signed 4) (part-unsigned file at end e)

@@ -2,3 +2,4 @@ pub mod Lengths
 pub mod Facts
 pub mod Exact
 pub mod Reading
+pub mod Natural

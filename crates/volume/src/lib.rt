@@ -20,8 +20,7 @@ use fixed::timestamp_length;
 use fixed::title_end;
 use fixed::title_length;
 use fixed::volume_type;
-use tables::check_lengths;
-use tables::check_offsets;
+use tables::check_contents;
 use tables::minus;
 use tables::place;
 use tables::two_bit_length;
@@ -113,10 +112,7 @@ fn check_rules(index: &[u8], sequence: &[u8], header: &[u8]) -> Checked
     if let Checked::Refused(r) = check_index(index) {
         return Checked::Refused(r);
     }
-    if let Checked::Refused(r) = check_offsets(index, sequence, header) {
-        return Checked::Refused(r);
-    }
-    check_lengths(index, sequence)
+    check_contents(index, sequence, header)
 }
 
 // How many of len bytes from a start on are left without the NULs at their end.

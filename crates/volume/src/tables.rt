@@ -11,13 +11,17 @@ use super::fixed::timestamp_end;
 use answers::Checked;
 use answers::Refusal;
 ghost use mathlib.Core.Path.{_≡_};
+ghost use mathlib.Core.Bool.{true};
 ghost use mathlib.Core.List.{_++_};
-ghost use Prim.Native.Nat.{_-_, _≤_, _<_, max};
+ghost use Prim.Native.Nat.{_+_, _-_, _*_, _≤_, _<_, max};
+ghost use lib.ListN.{length};
 ghost use lib.IntN.{pos};
+ghost use lib.Signed.{nonNeg};
 ghost use Rattle.laws.specs.Places.{every};
+ghost use Rattle.laws.specs.Rules.{AllHold};
 ghost use Rattle.laws.specs.Signed.{toNat, eqZ};
 ghost use Rattle.answers.specs.Limits.{checkedBy};
-ghost use Rattle.volume.specs.Index.{sequences};
+ghost use Rattle.volume.specs.Index.{sequences, tableSize, sequenceTable, ambiguityTable, tablesEnd};
 ghost use Rattle.volume.specs.Tables.{offsetAt, notBelow, above, between, headerOffsetRules, proteinOffsetRules, dnaOffsetRules, sequenceOffsetRules, offsetRules, proteinLength, twoBitLength, dnaLength, proteinSeparatorRules, separatorRules, statedRules, totalsOf, totalRules};
 
 // The first offset of a nucleotide file.
@@ -43,12 +47,14 @@ fn larger(a: usize, b: usize) -> usize
     a
 }
 
-// Offset k of the table at a place.
+// Offset k of the table at a place, where it lies inside the index.
 fn offset(index: &[u8], table: usize, k: usize) -> i32
-    requires { ⌜ (table < 34359738368) × (k ≤ 2147483648) ⌝ }
+    requires { ⌜ table + 4 * k + 4 ≤ length (now index) ⌝ }
     ensures { λ r. ⌜ r ≡ offsetAt (now (index .entry)) table k ⌝ }
 {
-    fields::be_i32(index, table + 4 * k)
+    let start = table + 4 * k;
+    let end = start + 4;
+    fields::be_i32(&index[start..end], 0)
 }
 
 // The place that offset k of the table at a place states.
@@ -58,6 +64,17 @@ pub(crate) fn place(index: &[u8], table: usize, k: usize) -> usize
     ensures small { λ r. ⌜ r < 2147483648 ⌝ }
 {
     natural_at(index, table + 4 * k)
+}
+
+// The same where the offset lies inside the index and is not negative.
+fn natural_place(index: &[u8], table: usize, k: usize) -> usize
+    requires { ⌜ (table + 4 * k + 4 ≤ length (now index)) × (nonNeg (offsetAt (now index) table k) ≡ true) ⌝ }
+    ensures value { λ r. ⌜ r ≡ toNat (offsetAt (now (index .entry)) table k) ⌝ }
+    ensures small { λ r. ⌜ r < 2147483648 ⌝ }
+{
+    let start = table + 4 * k;
+    let end = start + 4;
+    fields::be_u32(&index[start..end], 0) as usize
 }
 
 // Whether offset k of the table at a place is a given size.
@@ -70,7 +87,7 @@ fn offset_is(index: &[u8], table: usize, k: usize, size: usize) -> bool
 
 // Whether none of n + 1 offsets is below the one before.
 fn never_falls(index: &[u8], table: usize, n: usize) -> bool
-    requires { ⌜ (table < 34359738368) × (n < 2147483648) ⌝ }
+    requires { ⌜ table + 4 * (n + 1) ≤ length (now index) ⌝ }
     ensures { λ r. ⌜ r ≡ every (notBelow (now (index .entry)) table) n ⌝ }
 {
     let mut low = offset(index, table, 0);
@@ -88,7 +105,7 @@ fn never_falls(index: &[u8], table: usize, n: usize) -> bool
 
 // Whether each of n + 1 offsets is above the one before.
 fn rises(index: &[u8], table: usize, n: usize) -> bool
-    requires { ⌜ (table < 34359738368) × (n < 2147483648) ⌝ }
+    requires { ⌜ table + 4 * (n + 1) ≤ length (now index) ⌝ }
     ensures { λ r. ⌜ r ≡ every (above (now (index .entry)) table) n ⌝ }
 {
     let mut low = offset(index, table, 0);
@@ -106,7 +123,7 @@ fn rises(index: &[u8], table: usize, n: usize) -> bool
 
 // Whether S[k] < A[k] <= S[k+1] for each k below n, for the tables at two places.
 fn between(index: &[u8], s: usize, a: usize, n: usize) -> bool
-    requires { ⌜ (s < 34359738368) × (a < 34359738368) × (n < 2147483648) ⌝ }
+    requires { ⌜ (s + 4 * (n + 1) ≤ length (now index)) × (a + 4 * (n + 1) ≤ length (now index)) ⌝ }
     ensures { λ r. ⌜ r ≡ every (between (now (index .entry)) s a) n ⌝ }
 {
     let mut low = offset(index, s, 0);
@@ -128,6 +145,7 @@ fn between(index: &[u8], s: usize, a: usize, n: usize) -> bool
 
 // The header offsets.
 fn check_header_offsets(index: &[u8], header: &[u8]) -> Checked
+    requires { ⌜ sequenceTable (now index) ≤ length (now index) ⌝ }
     ensures { λ r. ⌜ r ≡ checkedBy (headerOffsetRules (now (index .entry)) (now (header .entry))) ⌝ }
 {
     let table = timestamp_end(index) + 16;
@@ -146,6 +164,7 @@ fn check_header_offsets(index: &[u8], header: &[u8]) -> Checked
 
 // The sequence offsets of a protein volume.
 fn check_protein_offsets(index: &[u8], sequence: &[u8]) -> Checked
+    requires { ⌜ ambiguityTable (now index) ≤ length (now index) ⌝ }
     ensures { λ r. ⌜ r ≡ checkedBy (proteinOffsetRules (now (index .entry)) (now (sequence .entry))) ⌝ }
 {
     let table = sequence_table(index);
@@ -164,6 +183,7 @@ fn check_protein_offsets(index: &[u8], sequence: &[u8]) -> Checked
 
 // The sequence and ambiguity offsets of a DNA volume.
 fn check_dna_offsets(index: &[u8], sequence: &[u8]) -> Checked
+    requires { ⌜ ambiguityTable (now index) + tableSize (now index) ≤ length (now index) ⌝ }
     ensures { λ r. ⌜ r ≡ checkedBy (dnaOffsetRules (now (index .entry)) (now (sequence .entry))) ⌝ }
 {
     let s = sequence_table(index);
@@ -185,6 +205,7 @@ fn check_dna_offsets(index: &[u8], sequence: &[u8]) -> Checked
 }
 
 fn check_sequence_offsets(index: &[u8], sequence: &[u8]) -> Checked
+    requires { ⌜ tablesEnd (now index) ≤ length (now index) ⌝ }
     ensures { λ r. ⌜ r ≡ checkedBy (sequenceOffsetRules (now (index .entry)) (now (sequence .entry))) ⌝ }
 {
     if is_protein(index) {
@@ -194,7 +215,8 @@ fn check_sequence_offsets(index: &[u8], sequence: &[u8]) -> Checked
 }
 
 // All offsets, 7.
-pub(crate) fn check_offsets(index: &[u8], sequence: &[u8], header: &[u8]) -> Checked
+fn check_offsets(index: &[u8], sequence: &[u8], header: &[u8]) -> Checked
+    requires { ⌜ tablesEnd (now index) ≤ length (now index) ⌝ }
     ensures { λ r. ⌜ r ≡ checkedBy (offsetRules (now (index .entry)) (now (sequence .entry)) (now (header .entry))) ⌝ }
 {
     if let Checked::Refused(r) = check_header_offsets(index, header) {
@@ -256,7 +278,7 @@ pub(crate) fn two_bit_length(sequence: &[u8], start: usize, end: usize) -> usize
 
 // The lengths of a DNA volume, 9.
 fn check_dna_lengths(index: &[u8], sequence: &[u8]) -> Checked
-    requires { ⌜ sequences (now index) ≤ 134217728 ⌝ }
+    requires { ⌜ (sequences (now index) ≤ 134217728) × (ambiguityTable (now index) + tableSize (now index) ≤ length (now index)) × AllHold (dnaOffsetRules (now index) (now sequence)) ⌝ }
     ensures { λ r. ⌜ r ≡ checkedBy (totalsOf (now (index .entry)) (dnaLength (now (index .entry)) (now (sequence .entry)))) ⌝ }
 {
     let s = sequence_table(index);
@@ -266,8 +288,8 @@ fn check_dna_lengths(index: &[u8], sequence: &[u8]) -> Checked
     let mut largest: usize = 0;
     let mut i = 0;
     while i < n {
-        let start = place(index, s, i);
-        let end = place(index, a, i);
+        let start = natural_place(index, s, i);
+        let end = natural_place(index, a, i);
         let len = two_bit_length(sequence, start, end);
         sum += len;
         largest = larger(largest, len);
@@ -277,12 +299,23 @@ fn check_dna_lengths(index: &[u8], sequence: &[u8]) -> Checked
 }
 
 // Separators and totals, 8 and 9.
-pub(crate) fn check_lengths(index: &[u8], sequence: &[u8]) -> Checked
-    requires { ⌜ sequences (now index) ≤ 134217728 ⌝ }
+fn check_lengths(index: &[u8], sequence: &[u8]) -> Checked
+    requires { ⌜ (sequences (now index) ≤ 134217728) × (tablesEnd (now index) ≤ length (now index)) × AllHold (sequenceOffsetRules (now index) (now sequence)) ⌝ }
     ensures { λ r. ⌜ r ≡ checkedBy (separatorRules (now (index .entry)) (now (sequence .entry)) ++ totalRules (now (index .entry)) (now (sequence .entry))) ⌝ }
 {
     if is_protein(index) {
         return check_protein_lengths(index, sequence);
     }
     check_dna_lengths(index, sequence)
+}
+
+// What the tables and the files say, 7 to 9.
+pub(crate) fn check_contents(index: &[u8], sequence: &[u8], header: &[u8]) -> Checked
+    requires { ⌜ (sequences (now index) ≤ 134217728) × (tablesEnd (now index) ≤ length (now index)) ⌝ }
+    ensures { λ r. ⌜ r ≡ checkedBy (offsetRules (now (index .entry)) (now (sequence .entry)) (now (header .entry)) ++ (separatorRules (now (index .entry)) (now (sequence .entry)) ++ totalRules (now (index .entry)) (now (sequence .entry)))) ⌝ }
+{
+    if let Checked::Refused(r) = check_offsets(index, sequence, header) {
+        return Checked::Refused(r);
+    }
+    check_lengths(index, sequence)
 }

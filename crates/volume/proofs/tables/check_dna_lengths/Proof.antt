@@ -6,8 +6,10 @@ use denote.Ref.{now}
 use Rattle.laws.specs.Places.{sumTo, largestTo}
 use Rattle.laws.proofs.Places.{sum-more, largest-more}
 use Rattle.volume.specs.Index.{sequences}
-use Rattle.volume.specs.Tables.{dnaLength}
+use lib.Signed.{nonNeg}
+use Rattle.volume.specs.Tables.{offsetAt, dnaLength}
 use Rattle.volume.proofs.Lengths.{place-at, dna-length, stated-at}
+use Rattle.volume.proofs.Natural.{natural-start, natural-end}
 use borrow.Author.Needs.{needs}
 use Rattle.volume.proofs.tables.check_dna_lengths.Statement.{statement}
 use Rattle.volume.proofs.tables.check_dna_lengths.Tie as tie
@@ -33,11 +35,17 @@ sequence-count-requires c κs = search needs
 loop-holds : tie.Need-loop-holds Inv-loop μ-loop
 loop-holds c = (search needs, refl, refl, search needs)
 
-place-requires : tie.Need-place-requires Inv-loop μ-loop
-place-requires c κs = search needs
+natural-place-requires : tie.Need-natural-place-requires Inv-loop μ-loop
+natural-place-requires c κs =
+    let a = (c .before .before .before .before .before .before .before .args) in
+    let i = (c .before .loop) .i in
+    (omega arith, ap (λ (t : ℕ). nonNeg (offsetAt (now (a .index)) t i)) ((c .before .before .before .before .sequence-table) .ensures .0) ∙ natural-start (now (a .index)) (now (a .sequence)) ((c .before .before .before .before .before .before .before .pre) .2) i (omega arith))
 
-place-requires-2 : tie.Need-place-requires-2 Inv-loop μ-loop
-place-requires-2 c κs = search needs
+natural-place-requires-2 : tie.Need-natural-place-requires-2 Inv-loop μ-loop
+natural-place-requires-2 c κs =
+    let a = (c .before .before .before .before .before .before .before .before .args) in
+    let i = (c .before .before .loop) .i in
+    (omega arith, ap (λ (t : ℕ). nonNeg (offsetAt (now (a .index)) t i)) ((c .before .before .before .before .ambiguity-table) .ensures .0) ∙ natural-end (now (a .index)) (now (a .sequence)) ((c .before .before .before .before .before .before .before .before .pre) .2) i (omega arith))
 
 two-bit-length-requires : tie.Need-two-bit-length-requires Inv-loop μ-loop
 two-bit-length-requires c κs = search needs
@@ -59,8 +67,8 @@ loop-again c =
     let index = now ((c .before .before .before .before .before .before .before .before .before .before .before .args) .index) in
     let sequence = now ((c .before .before .before .before .before .before .before .before .before .before .before .args) .sequence) in
     let l = (c .before .before .before .before .before .loop) in
-    let start = place-at index (l .i) _ ((c .before .before .before .before .before .before .before .before .sequence-table) .ensures .0) ((c .before .before .before .place) .ensures .0) in
-    let end = place-at index (l .i) _ ((c .before .before .before .before .before .before .before .ambiguity-table) .ensures .0) ((c .before .before .place2) .ensures .0) in
+    let start = place-at index (l .i) _ ((c .before .before .before .before .before .before .before .before .sequence-table) .ensures .0) ((c .before .before .before .natural-place) .ensures .0) in
+    let end = place-at index (l .i) _ ((c .before .before .before .before .before .before .before .ambiguity-table) .ensures .0) ((c .before .before .natural-place2) .ensures .0) in
     let len = dna-length index sequence (l .i) _ _ _ start end ((c .before .two-bit-length) .ensures .0) in
     (search needs, ap (λ (x : ℕ). x + (c .before .two-bit-length) .result) (l .inv .1) ∙ sum-more (dnaLength index sequence) (l .i) _ len, (c .larger) .ensures ∙ largest-more (dnaLength index sequence) (l .i) _ _ (l .inv .2) len, omega arith)
 
@@ -84,8 +92,8 @@ check-dna-lengths-spec =
     ambiguity-table-requires
     sequence-count-requires
     loop-holds
-    place-requires
-    place-requires-2
+    natural-place-requires
+    natural-place-requires-2
     two-bit-length-requires
     add-sum
     larger-requires

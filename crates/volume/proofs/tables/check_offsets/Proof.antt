@@ -4,12 +4,14 @@ use denote.Ref.{now}
 use Rattle.answers.proofs.Checks.{refused-first, passed-first}
 use Rattle.answers.specs.declared.Checked.the-variants.{Passed, Refused}
 use Rattle.volume.specs.Tables.{headerOffsetRules, sequenceOffsetRules}
+use native.Mathlib.Omega.{arith}
+use Rattle.volume.proofs.Facts.{two-tables}
 use borrow.Author.Needs.{needs}
 use Rattle.volume.proofs.tables.check_offsets.Statement.{statement}
 use Rattle.volume.proofs.tables.check_offsets.Tie as tie
 
 check-header-offsets-requires : tie.Need-check-header-offsets-requires
-check-header-offsets-requires c κs = search needs
+check-header-offsets-requires c κs = omega (arith, two-tables (now ((c .before .before .before .args) .index)))
 
 enum-known-r : tie.Need-enum-known-r
 enum-known-r c = search needs

@@ -1,0 +1,130 @@
+// Writes the listing of a volume to standard output. The arguments name its index, its sequence file and its header file.
+// Where a file cannot be read a message goes to standard error and nothing to standard output.
+use libc::STDERR_FILENO;
+use libc::STDOUT_FILENO;
+use listing::LISTING_ROOM;
+use listing::ListingAnswer;
+ghost use Rattle.io.specs.Counts.{Counts};
+
+// One byte more than is listed of a file, so that a larger file is known.
+const MOST_READ: usize = 16385;
+
+// How many bytes of a file came, and whether all that were asked for could be read.
+struct Loaded {
+    is_read: bool,
+    len: usize,
+}
+
+fn put_usage(fd: i32) {
+    io::write_all(fd, b"usage: list INDEX SEQUENCE HEADER\n");
+    io::write_all(
+        fd,
+        b"Lists a volume by its three files: type, sequences, residues and longest,\n",
+    );
+    io::write_all(fd, b"then the number and the length of each sequence.\n");
+}
+
+// Tells what failed, by its name, and why.
+fn tell(name: &[u8]) {
+    io::write_all(STDERR_FILENO, b"list: ");
+    os::fail(name);
+}
+
+// Reads until the range is full, the file ends or a read fails.
+fn read_into(fd: i32, buf: &mut [u8]) -> Loaded
+    ensures { λ r. ⌜ Counts (r .len) (now (buf .exit)) ⌝ }
+{
+    let mut len = 0;
+    while len < buf.len() {
+        let got = libc::read(fd, &mut buf[len..]);
+        if got < 0 {
+            return Loaded {
+                is_read: false,
+                len,
+            };
+        }
+        let more = io::count(got, &buf[len..]);
+        if more == 0 {
+            return Loaded { is_read: true, len };
+        }
+        len += more;
+    }
+    Loaded { is_read: true, len }
+}
+
+// Reads the file that an argument names.
+fn load(argument: usize, buf: &mut [u8]) -> Loaded
+    ensures { λ r. ⌜ Counts (r .len) (now (buf .exit)) ⌝ }
+{
+    let mut space = io::buffer();
+    let n = os::arg(argument, &mut space);
+    if os::errno() != 0 {
+        tell(b"argument");
+        return Loaded {
+            is_read: false,
+            len: 0,
+        };
+    }
+    let fd = os::open_read(&space[..n]);
+    if fd < 0 {
+        tell(&space[..n]);
+        return Loaded {
+            is_read: false,
+            len: 0,
+        };
+    }
+    let loaded = read_into(fd, buf);
+    if !loaded.is_read {
+        tell(&space[..n]);
+    }
+    libc::close(fd);
+    loaded
+}
+
+fn put_listing(index: &[u8], sequence: &[u8], header: &[u8]) {
+    let mut out = [0u8; LISTING_ROOM];
+    let ListingAnswer::Written(n) = listing::write_listing(index, sequence, header, &mut out) else {
+        return;
+    };
+    if !io::write_all(STDOUT_FILENO, &out[..n]) {
+        tell(b"standard output");
+    }
+}
+
+// Whether the only argument asks for help.
+fn asks_help() -> bool {
+    if os::arg_count() != 2 {
+        return false;
+    }
+    let mut space = io::buffer();
+    let n = os::arg(1, &mut space);
+    check::same(&space[..n], b"--help")
+}
+
+fn main() {
+    if asks_help() {
+        put_usage(STDOUT_FILENO);
+        return;
+    }
+    if os::arg_count() != 4 {
+        put_usage(STDERR_FILENO);
+        return;
+    }
+    let mut index = [0u8; MOST_READ];
+    let mut sequence = [0u8; MOST_READ];
+    let mut header = [0u8; MOST_READ];
+    let i = load(1, &mut index);
+    let s = load(2, &mut sequence);
+    let h = load(3, &mut header);
+    if !i.is_read || !s.is_read || !h.is_read {
+        return;
+    }
+    let index_len = i.len;
+    let sequence_len = s.len;
+    let header_len = h.len;
+    put_listing(
+        &index[..index_len],
+        &sequence[..sequence_len],
+        &header[..header_len],
+    );
+}
