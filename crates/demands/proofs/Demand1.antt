@@ -3,11 +3,11 @@
 -- without an answer, as `sequence_length` and `is_run`, refuse nothing.
 -- Assumes nothing.
 use mathlib.Core.Path.{_≡_, refl}
-use mathlib.Core.Bool.{true}
+use mathlib.Core.Bool.{Bool, true, false, cond}
 use mathlib.Core.Logic.{inl, inr}
 use mathlib.Core.List.{List, []}
 use Prim.Native.Nat.{ℕ}
-use lib.Dec.{ltb}
+use lib.Dec.{leb, ltb}
 use lib.ListN.{length, getD}
 use borrow.Author.Tests.{ltb-true}
 use Rattle.laws.specs.Writing.{writtenAt}
@@ -34,6 +34,9 @@ use Rattle.volume.specs.declared.VolumeAnswer.the-variants as Volume
 use Rattle.sequence.specs.Sequence.{residuesOf, decodeAnswer, writtenBy, decodeOutput, decodeNumber, decodeValues}
 use Rattle.sequence.specs.declared.DecodeAnswer.{DecodeAnswer}
 use Rattle.sequence.specs.declared.DecodeAnswer.the-variants as Decode
+use Rattle.listing.specs.Listing.{listingRoom, listingText, listingAnswer, listingOutput, listingNumber, listingValues}
+use Rattle.listing.specs.declared.ListingAnswer.{ListingAnswer}
+use Rattle.listing.specs.declared.ListingAnswer.the-variants as Listing
 use Rattle.dsqdata.specs.Check.{setCheck, setNumber, setValues}
 use Rattle.dsqdata.specs.Lookup.{lookupOf, lookupNumber, lookupValues}
 use Rattle.dsqdata.specs.declared.SetRecord.{SetRecord}
@@ -129,6 +132,10 @@ decode-answered : (x : DecodeAnswer) → Answered (decodeNumber x) (decodeValues
 decode-answered (Decode.Decoded l) = fine (decodeValues (Decode.Decoded l))
 decode-answered (Decode.Refused r) = refused r
 
+listing-answered : (x : ListingAnswer) → Answered (listingNumber x) (listingValues x)
+listing-answered (Listing.Written n) = fine (listingValues (Listing.Written n))
+listing-answered (Listing.Refused r) = refused r
+
 set-answered : (x : SetAnswer) → Answered (setNumber x) (setValues x)
 set-answered (Set.Passed s) = fine (setValues (Set.Passed s))
 set-answered (Set.Refused r) = refused r
@@ -180,6 +187,10 @@ unpacked-kept (Unpack.Refused r) codes out refuses = refl
 decoded-kept : (x : DecodeAnswer) (residues out : List ℕ) → Kept (decodeNumber x) out (writtenBy x residues out)
 decoded-kept (Decode.Decoded l) residues out refuses = absurd (refuses refl)
 decoded-kept (Decode.Refused r) residues out refuses = refl
+
+listed-kept : (b : Bool) (n : ℕ) (r : Refusal) (text out : List ℕ) → Kept (listingNumber (cond b (Listing.Written n) (Listing.Refused r))) out (cond b (writtenAt 0 text out) out)
+listed-kept true n r text out refuses = absurd (refuses refl)
+listed-kept false n r text out refuses = refl
 
 -- a results range: a refusal has no values to put there
 results-kept : (number : ℕ) (values results : List ℕ) → Answered number values → Kept number results (resultsPut values results)
@@ -296,6 +307,14 @@ unfolding decodeOutput
 decode-call index sequence number out =
     let answer = decodeAnswer index sequence number (length out) in
     (decode-answered answer, decoded-kept answer (residuesOf index sequence number) out)
+
+-- `write_listing` and its output
+pub write-listing-call : (index sequence header out : List ℕ) →
+    let answer = listingAnswer index sequence header (length out) in
+    Answered (listingNumber answer) (listingValues answer) × Kept (listingNumber answer) out (listingOutput index sequence header out)
+write-listing-call index sequence header out =
+    let text = listingText index sequence header in
+    (listing-answered (listingAnswer index sequence header (length out)), listed-kept (leb listingRoom (length out)) (length text) R.NoRoom text out)
 
 -- ---- sets
 
