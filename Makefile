@@ -1,7 +1,7 @@
 # make            proves every crate, builds the library and the programs, and runs them on the samples
 # make test       the gate: all proofs from nothing, every must-fail edit, every test
 # make bench      the library beside plain C and memcpy, in one run
-# make torture    a longer comparison with the second program: SEED=.. COUNT=..
+# make torture    a longer comparison with the second program, over every call it finds: SEED=.. COUNT=.. (cases a call)
 # make install    PREFIX=/usr/local: the header, the library and the programs
 PREFIX ?= /usr/local
 SEED ?= 1
@@ -11,7 +11,7 @@ CFLAGS ?= -O2
 STRICT = -std=c99 -Wall -Wextra -Werror -pedantic
 PROGRAMS = gullcheck gullpack gullunpack
 
-.PHONY: all prove lib programs demo test bench torture install clean
+.PHONY: all prove lib timing programs demo test bench torture install clean
 
 all: prove lib programs demo
 
@@ -38,15 +38,20 @@ demo:
 test:
 	bash .ci/run
 
-bench: lib
+timing:
 	rt staticlib timing
+	@mkdir -p build
+	cp target/staticlib/libtiming.a build/libtiming.a
+
+bench: lib timing
 	@mkdir -p build/bench
-	$(CC) -std=gnu11 -O3 -Wall -Wextra -Werror -o build/bench/bench bench/*.c build/libgullcordage.a target/staticlib/libtiming.a
+	$(CC) -std=gnu11 -O3 -Wall -Wextra -Werror -o build/bench/bench bench/*.c build/libgullcordage.a build/libtiming.a
 	build/bench/bench
 
 torture:
+	@test -x target/bin/cases || { echo "torture: target/bin/cases is not there; run make first"; exit 1; }
 	cd second && cargo build --offline --release
-	second/target/release/compare target/bin/cases --seed $(SEED) --count $(COUNT)
+	second/target/release/compare target/bin/cases --calls present --seed $(SEED) --count $(COUNT)
 
 install: lib programs
 	install -d $(DESTDIR)$(PREFIX)/include $(DESTDIR)$(PREFIX)/lib $(DESTDIR)$(PREFIX)/bin

@@ -1,4 +1,4 @@
-//! Says where the static library stands, for the programs that call it directly. Without the feature `face` there is
+//! Says where the static libraries stand, for the programs that call them directly. Without the feature `face` there is
 //! nothing to say.
 
 fn main() {
@@ -9,6 +9,8 @@ fn main() {
     }
     let folder = std::env::var("GULL_LIB").expect("GULL_LIB must name the folder of libgullcordage.a");
     let folder = std::fs::canonicalize(&folder).expect("GULL_LIB names no folder");
-    println!("cargo:rerun-if-changed={}", folder.join("libgullcordage.a").display());
+    for library in ["libgullcordage.a", "libtiming.a"] {
+        println!("cargo:rerun-if-changed={}", folder.join(library).display());
+    }
     println!("cargo:rustc-link-search=native={}", folder.display());
 }

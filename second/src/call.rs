@@ -44,12 +44,34 @@ pub const CONSOLE_VOLUME_CHECK: u8 = 10;
 pub const CONSOLE_PACK: u8 = 11;
 pub const CONSOLE_UNPACK: u8 = 12;
 
-/// The calls by byte: name, arguments in order, and the numbers that document 01 lets the call give.
+/// How a call's 22 is shown to come: ranges in the protocol are too small for it.
+#[derive(Clone, Copy, Debug, PartialEq, Eq)]
+pub enum Large {
+    CFunction,
+    Timing,
+    Contract,
+}
+
+impl Large {
+    pub fn words(self) -> &'static str {
+        match self {
+            Large::CFunction => "in face, through the C function",
+            Large::Timing => "in face, through the timing library",
+            Large::Contract => "by contract only",
+        }
+    }
+}
+
+/// Decoding's 22 is shown once the timing library has the call.
+const DECODE_LARGE: Large = if cfg!(feature = "timing-decode") { Large::Timing } else { Large::Contract };
+
+/// The calls by byte: name, arguments in order, the numbers that document 01 lets the call give, and how 22 is shown.
 pub struct Signature {
     pub byte: u8,
     pub name: &'static str,
     pub kinds: &'static [Kind],
     pub numbers: &'static [u32],
+    pub large: Large,
 }
 
 use Kind::{Number, Output, PacketOutput, PacketRange, Range};
@@ -60,30 +82,35 @@ pub const SIGNATURES: [Signature; 12] = [
         name: "volume check",
         kinds: &[Range, Range, Range],
         numbers: &[0, 1, 2, 3, 4, 5, 6, 7, 8, 9, 22],
+        large: Large::Contract,
     },
     Signature {
         byte: DECODE,
         name: "decode",
         kinds: &[Range, Range, Number, Output],
         numbers: &[0, 1, 2, 3, 4, 5, 6, 7, 8, 10, 11, 12, 13, 22],
+        large: DECODE_LARGE,
     },
     Signature {
         byte: PACK,
         name: "pack",
         kinds: &[Number, Range, Number, PacketOutput],
         numbers: &[0, 3, 13, 18, 22],
+        large: Large::Contract,
     },
     Signature {
         byte: UNPACK,
         name: "unpack",
         kinds: &[Number, PacketRange, Output],
         numbers: &[0, 3, 13, 17, 22],
+        large: Large::Contract,
     },
     Signature {
         byte: SET_CHECK,
         name: "set check",
         kinds: &[Range, Range, Range],
         numbers: &[0, 1, 3, 4, 6, 7, 9, 14, 15, 17, 19, 22],
+        large: Large::Timing,
     },
     Signature {
         byte: LOOKUP,
@@ -92,42 +119,49 @@ pub const SIGNATURES: [Signature; 12] = [
             Number, Number, Number, Number, Number, Number, Number, Number, Number, Number, Range, Number,
         ],
         numbers: &[0, 1, 4, 6, 7, 10, 22],
+        large: Large::Contract,
     },
     Signature {
         byte: IDENTIFIER,
         name: "identifier",
         kinds: &[Range, Number, Number, Number],
         numbers: &[0, 1, 10, 20, 21, 22],
+        large: Large::Contract,
     },
     Signature {
         byte: WALKER_STEP,
         name: "walker step",
         kinds: &[Range, Number, Number, Number],
         numbers: &[0, 1, 10, 20, 21, 22],
+        large: Large::Contract,
     },
     Signature {
         byte: LABEL,
         name: "label",
         kinds: &[Range, Range, Number],
         numbers: &[0, 1, 2, 3, 4, 5, 6, 7, 10, 20, 21, 22],
+        large: Large::Contract,
     },
     Signature {
         byte: CONSOLE_VOLUME_CHECK,
         name: "console volume check",
         kinds: &[Range, Range, Range, Output],
         numbers: &[0, 1, 2, 3, 4, 5, 6, 7, 8, 9, 13, 22],
+        large: Large::CFunction,
     },
     Signature {
         byte: CONSOLE_PACK,
         name: "console pack",
         kinds: &[Number, Range, Output, Number, Output],
         numbers: &[0, 3, 13, 18, 22],
+        large: Large::CFunction,
     },
     Signature {
         byte: CONSOLE_UNPACK,
         name: "console unpack",
         kinds: &[Number, Range, Output, Output],
         numbers: &[0, 1, 3, 13, 17, 22],
+        large: Large::CFunction,
     },
 ];
 

@@ -1,11 +1,9 @@
 //! The comparison: cases go to a program that speaks CASES.md, and its lines are held against our own.
 
-use crate::answers::TOO_LARGE;
-use crate::call::{signature, Call};
 use crate::generate::Case;
-use crate::line::{line_of, number_of};
-use crate::stream::{describe, stream_of};
-use std::collections::BTreeMap;
+use crate::line::line_of;
+use crate::outcome::{Difference, Outcome};
+use crate::stream::stream_of;
 use std::io::{Read, Write};
 use std::path::Path;
 use std::process::{Command, Stdio};
@@ -14,24 +12,6 @@ use std::thread;
 /// How many cases one run of the program gets.
 const BATCH: usize = 250;
 
-/// How many differences of a call are shown.
-const SHOWN: usize = 3;
-
-/// A case on which the two programs do not agree.
-pub struct Difference {
-    pub case: Case,
-    pub expected: String,
-    pub found: String,
-}
-
-/// What came out of one call's cases.
-#[derive(Default)]
-pub struct Outcome {
-    pub cases: usize,
-    pub reached: BTreeMap<u32, usize>,
-    pub differences: Vec<Difference>,
-}
-
 /// All lines that a program wrote for a stream, and what else is known of its end.
 struct Reply {
     lines: Vec<String>,
@@ -39,28 +19,29 @@ struct Reply {
     end: String,
 }
 
-/// Compares the cases of one call, batch by batch.
-pub fn compare(program: &Path, cases: &[Case]) -> Result<Outcome, String> {
+/// Compares cases, batch by batch, and tells after each how many are done.
+pub fn compare(
+    program: &Path,
+    cases: impl Iterator<Item = Case>,
+    mut told: impl FnMut(usize),
+) -> Result<Outcome, String> {
     let mut outcome = Outcome::default();
-    for batch in cases.chunks(BATCH) {
+    let mut cases = cases.peekable();
+    while cases.peek().is_some() {
+        let batch: Vec<Case> = cases.by_ref().take(BATCH).collect();
         let expected: Vec<String> = batch.iter().map(|case| line_of(&case.call)).collect();
         let stream: Vec<u8> = batch.iter().flat_map(|case| stream_of(&case.call)).collect();
         let reply = run(program, stream)?;
-        judge(&mut outcome, batch, &expected, &reply);
+        judge(&mut outcome, &batch, &expected, &reply);
+        told(outcome.cases);
     }
     Ok(outcome)
 }
 
-impl Outcome {
-    /// Counts one case, and notes it where the two lines are not the same.
-    pub fn count(&mut self, case: &Case, expected: &str, found: String) {
-        self.cases += 1;
-        let number = number_of(expected).expect("our lines begin with a number");
-        *self.reached.entry(number).or_insert(0) += 1;
-        if found != expected {
-            self.differences.push(Difference { case: case.clone(), expected: expected.to_string(), found });
-        }
-    }
+/// Whether the program knows a call: it does not end at it with `unknown`.
+pub fn knows(program: &Path, case: &Case) -> Result<bool, String> {
+    let reply = run(program, stream_of(&case.call))?;
+    Ok(reply.lines.first().is_some_and(|line| line != "unknown"))
 }
 
 /// Counts every line of a batch; a missing one is a difference, and so is one too many.
@@ -131,48 +112,4 @@ fn lines_in(text: &str) -> Vec<String> {
         _ => {}
     }
     lines
-}
-
-/// The numbers that a call can give and the cases did not reach. 22 is asked only where the cases can make it.
-pub fn missed(byte: u8, reached: &BTreeMap<u32, usize>, with_22: bool) -> Vec<u32> {
-    let numbers = signature(byte).map_or(&[] as &[u32], |signature| signature.numbers);
-    let asked = |number: &u32| *number != TOO_LARGE || with_22;
-    numbers.iter().copied().filter(asked).filter(|number| !reached.contains_key(number)).collect()
-}
-
-/// Prints what came out of one call; gives how many things are wrong with it. `about_22` is said where the cases
-/// cannot make that number.
-pub fn report(byte: u8, outcome: &Outcome, about_22: Option<&str>) -> usize {
-    let name = signature(byte).map_or("", |signature| signature.name);
-    println!("call {byte} ({name}): {} cases", outcome.cases);
-    let mut reached: Vec<String> =
-        outcome.reached.iter().map(|(number, count)| format!("{number}: {count}")).collect();
-    reached.extend(about_22.map(str::to_string));
-    println!("  answers {}", reached.join(", "));
-    for difference in outcome.differences.iter().take(SHOWN) {
-        println!(
-            "  DIFFERENCE ({}) in {}",
-            difference.case.note,
-            describe_call(&difference.case.call).trim_end()
-        );
-        println!("    expected: {}\n    found:    {}", difference.expected, difference.found);
-    }
-    if outcome.differences.len() > SHOWN {
-        println!("  and {} differences more", outcome.differences.len() - SHOWN);
-    }
-    let missed = missed(byte, &outcome.reached, about_22.is_none());
-    for number in &missed {
-        println!("  NOT REACHED: answer {number}");
-    }
-    outcome.differences.len() + missed.len()
-}
-
-/// A call for people: its name and its arguments in hex.
-pub fn describe_call(call: &Call) -> String {
-    let name = signature(call.byte).map_or("unknown", |signature| signature.name);
-    let mut text = format!("call {} ({name})\n", call.byte);
-    for argument in &call.arguments {
-        text.push_str(&format!("    {}\n", describe(argument)));
-    }
-    text
 }

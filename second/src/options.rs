@@ -3,11 +3,11 @@
 use crate::generate::GENERATED;
 use std::path::PathBuf;
 
-/// `words` are the arguments without a name.
+/// `words` are the arguments without a name; no list of calls stands for those that the program has.
 #[derive(Clone, Debug, PartialEq, Eq)]
 pub struct Options {
     pub words: Vec<String>,
-    pub calls: Vec<u8>,
+    pub calls: Option<Vec<u8>>,
     pub seed: u64,
     pub count: usize,
     pub samples: PathBuf,
@@ -16,8 +16,13 @@ pub struct Options {
 /// Reads the program's arguments.
 pub fn options(arguments: impl Iterator<Item = String>) -> Result<Options, String> {
     let mut arguments = arguments;
-    let mut options =
-        Options { words: vec![], calls: GENERATED.to_vec(), seed: 1, count: 2000, samples: "samples".into() };
+    let mut options = Options {
+        words: vec![],
+        calls: Some(GENERATED.to_vec()),
+        seed: 1,
+        count: 2000,
+        samples: "samples".into(),
+    };
     while let Some(argument) = arguments.next() {
         if !argument.starts_with("--") {
             options.words.push(argument);
@@ -26,7 +31,8 @@ pub fn options(arguments: impl Iterator<Item = String>) -> Result<Options, Strin
         let value = arguments.next().ok_or(format!("{argument} needs a value"))?;
         let wrong = |_| format!("{argument} cannot be {value}");
         match argument.as_str() {
-            "--calls" => options.calls = calls(&value)?,
+            "--calls" if value == "present" => options.calls = None,
+            "--calls" => options.calls = Some(calls(&value)?),
             "--seed" => options.seed = value.parse().map_err(wrong)?,
             "--count" => options.count = value.parse().map_err(wrong)?,
             "--samples" => options.samples = PathBuf::from(&value),

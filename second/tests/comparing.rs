@@ -1,11 +1,15 @@
-//! The comparison itself: it agrees with our own answers, and finds a wrong line, a missing line and a program
-//! that cannot start.
+//! The comparison itself: it agrees with our own answers, and finds a wrong line, a missing line, a program that cannot
+//! start, and what no case has shown.
 
 mod common;
 
+use second::answers::{NO_ROOM, WRONG_TYPE};
 use second::call::PACK;
-use second::comparison::compare;
-use second::generate::cases;
+use second::comparison::{compare, knows};
+use second::generate::order::Shows;
+use second::generate::{cases, Case};
+use second::line::line_of;
+use second::outcome::Outcome;
 use std::path::{Path, PathBuf};
 use std::process::Command;
 
@@ -23,23 +27,24 @@ fn script(name: &str, options: &str) -> PathBuf {
 
 #[test]
 fn it_agrees_with_our_own_answers() {
-    let cases = cases(PACK, 1, 0, &common::samples());
-    let outcome = compare(Path::new(own_cases()), &cases).unwrap();
-    assert_eq!((outcome.cases, outcome.differences.len()), (cases.len(), 0));
+    let mut told = 0;
+    let cases: Vec<Case> = cases(PACK, 1, 0, &common::samples()).collect();
+    let outcome = compare(Path::new(own_cases()), cases.clone().into_iter(), |done| told = done).unwrap();
+    assert_eq!((outcome.cases, outcome.differences.len(), told), (cases.len(), 0, cases.len()));
 }
 
 #[test]
 fn it_finds_one_wrong_line() {
-    let cases = &cases(PACK, 1, 0, &common::samples())[..100];
-    let outcome = compare(&script("wrong-line", "--wrong 7"), cases).unwrap();
+    let cases = cases(PACK, 1, 0, &common::samples()).take(100);
+    let outcome = compare(&script("wrong-line", "--wrong 7"), cases, |_| {}).unwrap();
     assert_eq!(outcome.differences.len(), 1);
     assert_eq!(outcome.differences[0].found, format!("{}0", outcome.differences[0].expected));
 }
 
 #[test]
 fn it_says_when_the_program_ends_early() {
-    let cases = &cases(PACK, 1, 0, &common::samples())[..100];
-    let outcome = compare(&script("ends-early", "--stop 90"), cases).unwrap();
+    let cases = cases(PACK, 1, 0, &common::samples()).take(100);
+    let outcome = compare(&script("ends-early", "--stop 90"), cases, |_| {}).unwrap();
     assert_eq!(outcome.differences.len(), 10);
     assert!(outcome.differences[0].found.contains("ended early after 90 of 100 lines"));
     assert!(outcome.differences[0].found.contains("stopped before line 90"));
@@ -47,6 +52,44 @@ fn it_says_when_the_program_ends_early() {
 
 #[test]
 fn it_says_when_the_program_cannot_start() {
-    let cases = &cases(PACK, 1, 0, &common::samples())[..1];
-    assert!(compare(Path::new("no-such-program"), cases).is_err_and(|error| error.contains("cannot start")));
+    let cases = cases(PACK, 1, 0, &common::samples()).take(1);
+    let answer = compare(Path::new("no-such-program"), cases, |_| {});
+    assert!(answer.is_err_and(|error| error.contains("cannot start")));
+}
+
+#[test]
+fn it_says_which_number_limit_or_pair_is_missing() {
+    let mut outcome = Outcome::default();
+    for case in cases(PACK, 1, 0, &common::samples()) {
+        let is_left_out = case.shows == Some(Shows::side("amino", "each code is valid", "28 as the last"))
+            || matches!(case.shows, Some(Shows::Pair { later: "each code is valid", .. }))
+            || case.aim.is_none_or(|aim| aim == WRONG_TYPE);
+        let line = line_of(&case.call);
+        if !is_left_out {
+            outcome.count(&case, &line, line.clone());
+        }
+    }
+    assert_eq!(outcome.missed(PACK, false), [WRONG_TYPE]);
+    let missing = outcome.not_shown(PACK);
+    assert!(missing.contains(&Shows::side("amino", "each code is valid", "28 as the last")));
+    assert!(missing.contains(&Shows::pair("nucleic", "the alphabet is 1, 2 or 3", "each code is valid")));
+    assert_eq!(outcome.tell(PACK, false), 1 + missing.len());
+}
+
+#[test]
+fn it_says_when_a_case_misses_its_aim() {
+    let mut outcome = Outcome::default();
+    let mut case = cases(PACK, 1, 0, &common::samples()).next().unwrap();
+    case.aim = Some(NO_ROOM);
+    let line = line_of(&case.call);
+    outcome.count(&case, &line, line.clone());
+    assert_eq!((outcome.differences.len(), outcome.shown.len()), (1, 0));
+}
+
+#[test]
+fn it_finds_out_which_calls_a_program_knows() {
+    let mut case = cases(PACK, 1, 0, &common::samples()).next().unwrap();
+    assert_eq!(knows(Path::new(own_cases()), &case), Ok(true));
+    case.call.byte = 77;
+    assert_eq!(knows(Path::new(own_cases()), &case), Ok(false));
 }

@@ -3,12 +3,11 @@
 
 mod common;
 
-use second::comparison::missed;
 use second::generate::{cases, GENERATED};
 use second::line::{line_of, number_of};
+use second::outcome::Outcome;
 use second::serve::lines_of;
 use second::stream::stream_of;
-use std::collections::BTreeMap;
 
 #[test]
 fn every_aimed_case_gives_its_number() {
@@ -27,14 +26,16 @@ fn every_aimed_case_gives_its_number() {
 }
 
 #[test]
-fn every_number_is_reached() {
+fn every_number_limit_and_pair_is_reached() {
     let samples = common::samples();
     for byte in GENERATED {
-        let mut reached = BTreeMap::new();
+        let mut outcome = Outcome::default();
         for case in cases(byte, 6, 0, &samples) {
-            *reached.entry(number_of(&line_of(&case.call)).unwrap()).or_insert(0) += 1;
+            let line = line_of(&case.call);
+            outcome.count(&case, &line, line.clone());
         }
-        assert_eq!(missed(byte, &reached, false), [], "call {byte}");
+        assert_eq!(outcome.missed(byte, false), [], "call {byte}");
+        assert_eq!(outcome.not_shown(byte), [], "call {byte}");
     }
 }
 
@@ -42,7 +43,7 @@ fn every_number_is_reached() {
 fn every_case_goes_through_the_protocol() {
     let samples = common::samples();
     for byte in GENERATED {
-        for batch in cases(byte, 7, 1500, &samples).chunks(100) {
+        for batch in cases(byte, 7, 1500, &samples).collect::<Vec<_>>().chunks(100) {
             assert!(batch.iter().all(|case| case.call.fits_protocol()));
             let stream: Vec<u8> = batch.iter().flat_map(|case| stream_of(&case.call)).collect();
             let expected: Vec<String> = batch.iter().map(|case| line_of(&case.call)).collect();
@@ -55,9 +56,7 @@ fn every_case_goes_through_the_protocol() {
 fn the_same_seed_makes_the_same_cases() {
     let samples = common::samples();
     for byte in GENERATED {
-        let calls = |seed| -> Vec<_> {
-            cases(byte, seed, 1000, &samples).into_iter().map(|case| case.call).collect()
-        };
+        let calls = |seed| -> Vec<_> { cases(byte, seed, 1000, &samples).map(|case| case.call).collect() };
         assert_eq!(calls(3), calls(3));
         assert_ne!(calls(3), calls(4));
     }

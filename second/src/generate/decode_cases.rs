@@ -1,9 +1,10 @@
 //! Cases for decoding one sequence.
 
+use super::decode_rules::{chosen, rules};
 use super::dna::{entries, table, two_bit, Entry};
-use super::faults::{alone_and_in_pairs, by_chance, fault, Change, Damaged, Fault};
-use super::index_faults;
+use super::order::Order;
 use super::rng::Rng;
+use super::rules::{by_chance, order, sides_and_pairs, Change, Damaged};
 use super::samples::Samples;
 use super::volumes::*;
 use super::Case;
@@ -27,7 +28,7 @@ fn choose(plan: &mut Plan, number: usize, rng: &mut Rng) {
     plan.room = plan.lengths[number] + *rng.pick(&[0, 0, 1, 7]);
 }
 
-/// A plan that every fault can be put into: a title, a timestamp, a sequence of several residues.
+/// A plan in which every rule can be broken: a title, a timestamp, a sequence of several residues.
 fn to_damage(kind: i128, rng: &mut Rng) -> Plan {
     loop {
         let n = rng.between(1, 4);
@@ -39,98 +40,10 @@ fn to_damage(kind: i128, rng: &mut Rng) -> Plan {
 }
 
 fn call(plan: &Plan, rng: &mut Rng) -> Call {
-    let index = Argument::Range(plan.index(rng));
+    let index = Argument::Range(plan.index());
     let sequence = Argument::Range(plan.sequence.clone());
     let output = Argument::Output(plan.room, rng.byte());
     Call::new(DECODE, vec![index, sequence, Argument::Number(plan.number), output])
-}
-
-/// All faults of decoding in the order of its refusals.
-fn faults(kind: i128) -> Vec<Fault<Plan>> {
-    let mut faults = index_faults::faults(kind);
-    faults.push(fault(NO_SUCH_NUMBER, "a number above the last", |plan, rng| {
-        let n = plan.s.len() as u64 - 1;
-        plan.number = *rng.pick(&[n, n + 1, (1 << 32) + plan.number, (1 << 63) + plan.number, u64::MAX]);
-    }));
-    faults.extend(if kind == 1 { protein_faults() } else { dna_faults() });
-    faults.push(fault(NO_ROOM, "one byte too few", |plan, _| {
-        plan.room = plan.lengths[plan.number as usize] - 1
-    }));
-    faults
-}
-
-fn chosen(plan: &Plan) -> usize {
-    plan.number as usize
-}
-
-fn protein_faults() -> Vec<Fault<Plan>> {
-    vec![
-        fault(BAD_OFFSETS, "a start below 1", |plan: &mut Plan, rng| {
-            let i = chosen(plan);
-            plan.s[i] = *rng.pick(&[0, -1, -2_147_483_648]);
-        }),
-        fault(BAD_OFFSETS, "the next not above the start", |plan, rng| {
-            let i = chosen(plan);
-            plan.s[i + 1] = plan.s[i] - rng.below(2) as i128;
-        }),
-        fault(BAD_OFFSETS, "the next past the file", |plan, rng| {
-            let i = chosen(plan);
-            plan.s[i + 1] = *rng.pick(&[plan.sequence.len() as i128 + 1, 2_147_483_647]);
-        }),
-        fault(NO_SEPARATOR, "no NUL before", |plan, rng| {
-            let i = chosen(plan);
-            plan.sequence[plan.s[i] as usize - 1] = rng.between(1, 255) as u8;
-        }),
-        fault(NO_SEPARATOR, "no NUL behind", |plan, rng| {
-            let i = chosen(plan);
-            plan.sequence[plan.s[i + 1] as usize - 1] = rng.between(1, 255) as u8;
-        }),
-        fault(BAD_PROTEIN_BYTE, "a byte above 27", |plan, rng| {
-            let i = chosen(plan);
-            let at = plan.s[i] as usize + rng.below(plan.lengths[i]);
-            plan.sequence[at] = *rng.pick(&[28, 28, 29, 128, 255]);
-        }),
-    ]
-}
-
-fn dna_faults() -> Vec<Fault<Plan>> {
-    let mut faults = vec![
-        fault(BAD_OFFSETS, "a negative start", |plan: &mut Plan, rng| {
-            let i = chosen(plan);
-            plan.s[i] = *rng.pick(&[-1, -2_147_483_648]);
-        }),
-        fault(BAD_OFFSETS, "no byte before the ambiguity offset", |plan, rng| {
-            let i = chosen(plan);
-            plan.a[i] = plan.s[i] - rng.below(2) as i128;
-        }),
-        fault(BAD_OFFSETS, "the ambiguity offset past the next", |plan, _| {
-            let i = chosen(plan);
-            plan.a[i] = plan.s[i + 1] + 1;
-        }),
-        fault(BAD_OFFSETS, "the next past the file", |plan, rng| {
-            let i = chosen(plan);
-            plan.s[i + 1] = *rng.pick(&[plan.sequence.len() as i128 + 1, 2_147_483_647]);
-        }),
-    ];
-    faults.push(fault(BAD_AMBIGUITY_TABLE, "a bad ambiguity table", |plan, rng| {
-        let tables = bad_tables(plan.lengths[chosen(plan)], rng);
-        let range = rng.pick(&tables).1.clone();
-        replace_range(plan, range);
-    }));
-    faults
-}
-
-/// The chosen sequence with another ambiguity range. Everything else of the volume is laid out anew.
-fn replace_range(plan: &mut Plan, range: Vec<u8>) {
-    let mut stored: Vec<Stored> = (0..plan.lengths.len())
-        .map(|i| Stored {
-            residues: plan.lengths[i],
-            bytes: plan.sequence[plan.s[i] as usize..plan.a[i] as usize].to_vec(),
-            range: plan.sequence[plan.a[i] as usize..plan.s[i + 1] as usize].to_vec(),
-        })
-        .collect();
-    stored[plan.number as usize].range = range;
-    plan.lay_out(&stored);
 }
 
 /// Ambiguity ranges that are 12 over this many residues, at least 3.
@@ -171,12 +84,8 @@ fn bad_tables(residues: usize, rng: &mut Rng) -> Vec<(&'static str, Vec<u8>)> {
 
 pub fn planned(rng: &mut Rng, samples: &Samples) -> Vec<Case> {
     let mut cases = Vec::new();
-    for kind in [0, 1] {
-        for Damaged { plan, number, note } in
-            alone_and_in_pairs(&faults(kind), rng, |rng| to_damage(kind, rng))
-        {
-            cases.push(Case::aimed(call(&plan, rng), number, note));
-        }
+    for (kind, title) in KINDS {
+        cases.extend(sides_and_pairs(title, &rules(kind), rng, |rng| to_damage(kind, rng), call));
         cases.extend(elsewhere(kind, rng));
         cases.extend(numbers(kind, rng));
         cases.extend(rooms(kind, rng));
@@ -185,6 +94,10 @@ pub fn planned(rng: &mut Rng, samples: &Samples) -> Vec<Case> {
     cases.extend(protein_bytes(rng));
     cases.extend(real(rng, samples));
     cases
+}
+
+pub fn orders() -> Vec<Order> {
+    KINDS.map(|(kind, title)| order(DECODE, title, &rules(kind))).to_vec()
 }
 
 /// Faults that this sequence does not meet: other entries, header offsets, totals, the file's end.
@@ -320,7 +233,7 @@ pub fn random(rng: &mut Rng) -> Case {
         }
         5..=7 => {
             let plan = to_damage(kind, rng);
-            let Damaged { plan, number, note } = by_chance(&faults(kind), rng, plan);
+            let Damaged { plan, number, note } = by_chance(&rules(kind), rng, plan);
             Case::aimed(call(&plan, rng), number, note)
         }
         _ => {

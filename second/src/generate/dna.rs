@@ -58,3 +58,10 @@ pub fn ambiguity_range(residues: usize, rng: &mut Rng) -> Vec<u8> {
         _ => table(is_wide, &entries(is_wide, residues, rng)),
     }
 }
+
+/// Two-bit bytes of this many residues, all A.
+pub fn all_a(residues: usize) -> Vec<u8> {
+    let mut bytes = vec![0; residues / 4 + 1];
+    *bytes.last_mut().expect("a last byte") = (residues % 4) as u8;
+    bytes
+}

@@ -1,7 +1,8 @@
 //! Cases for the lookup in an opened set.
 
-use super::faults::{alone_and_in_pairs, by_chance, fault, Damaged, Fault};
+use super::order::Order;
 use super::rng::Rng;
+use super::rules::{by_chance, order, rule, sides_and_pairs, Damaged, Rule};
 use super::samples::Samples;
 use super::Case;
 use crate::answers::*;
@@ -63,55 +64,98 @@ fn to_damage(rng: &mut Rng) -> Plan {
     plan
 }
 
-/// The faults in the order of the refusals.
-fn faults() -> Vec<Fault<Plan>> {
-    let mut faults = vec![
-        fault(OUT_OF_RANGE, "count above the most", |plan: &mut Plan, rng| {
-            plan.record[COUNT] =
-                *rng.pick(&[134_217_729, 1 << 32, 1 << 60, (1 << 60) + 2, 1 << 63, u64::MAX]);
-        }),
-        fault(ENDS_TOO_EARLY, "an index too short", |plan, rng| {
-            let whole = 52 + 16 * plan.ends.len();
-            plan.length = Some(*rng.pick(&[whole - 17, 52, 51, 0]));
-        }),
-        fault(ENDS_TOO_EARLY, "one more stated", |plan, _| plan.record[COUNT] = plan.ends.len() as u64 + 1),
-        fault(ENDS_TOO_EARLY, "the most stated", |plan, _| plan.record[COUNT] = 134_217_728),
-        fault(LEFT_OVER, "an index too long", |plan, rng| {
-            let length = *rng.pick(&[1, 8, 15]);
-            plan.behind = rng.bytes(length);
-        }),
-        fault(LEFT_OVER, "one less stated", |plan, _| plan.record[COUNT] = plan.ends.len() as u64 - 1),
-        fault(NO_SUCH_NUMBER, "a number above the last", |plan, rng| {
-            let n = plan.ends.len() as u64;
-            plan.number = *rng.pick(&[n, n + 1, (1 << 32) + plan.number, (1 << 60) + plan.number, u64::MAX]);
-        }),
+/// The rules in the order of the refusals.
+fn rules() -> Vec<Rule<Plan>> {
+    let mut rules = vec![
+        rule(OUT_OF_RANGE, "the record's count is at most 134,217,728")
+            .leads_to(ENDS_TOO_EARLY, "134,217,728", |plan: &mut Plan| plan.record[COUNT] = 134_217_728)
+            .breaks("134,217,729", |plan| plan.record[COUNT] = 134_217_729)
+            .breaks("2^63", |plan| plan.record[COUNT] = 1 << 63)
+            .farther(|plan, rng| {
+                plan.record[COUNT] = *rng.pick(&[1 << 32, 1 << 60, (1 << 60) + 2, u64::MAX]);
+            }),
+        rule(ENDS_TOO_EARLY, "the index has every end")
+            .passes("every byte", |_: &mut Plan| {})
+            .breaks("one byte less", |plan| plan.length = Some(51 + 16 * plan.ends.len()))
+            .breaks("one more in the record", |plan| plan.record[COUNT] = plan.ends.len() as u64 + 1)
+            .farther(|plan, rng| plan.length = Some(rng.below(52 + 16 * plan.ends.len())))
+            .shuts("an index that is short has nothing left over"),
+        rule(LEFT_OVER, "nothing follows the ends")
+            .passes("no byte", |_: &mut Plan| {})
+            .breaks("one byte", |plan| plan.behind = vec![0])
+            .breaks("one less in the record", |plan| plan.record[COUNT] = plan.ends.len() as u64 - 1)
+            .farther(|plan, rng| {
+                let length = *rng.pick(&[8, 15, 16]);
+                plan.behind = rng.bytes(length);
+            }),
+        rule(NO_SUCH_NUMBER, "the number is below the count")
+            .passes("count - 1", |plan: &mut Plan| plan.number = plan.ends.len() as u64 - 1)
+            .breaks("count", |plan| plan.number = plan.ends.len() as u64)
+            .farther(|plan, rng| {
+                let n = plan.ends.len() as u64;
+                plan.number = *rng.pick(&[n + 1, (1 << 32) + plan.number, (1 << 60) + plan.number, u64::MAX]);
+            })
+            .shuts("a sequence that is not there has no ends"),
     ];
-    faults.extend(end_faults());
-    faults
+    for column in 0..2 {
+        rules.extend(end_rules(column));
+    }
+    rules
 }
 
-fn end_faults() -> Vec<Fault<Plan>> {
+/// The ends of metadata, or of packets: the chosen one and the one before.
+fn end_rules(column: usize) -> Vec<Rule<Plan>> {
+    let of = |metadata: &'static str, packets: &'static str| [metadata, packets][column];
+    let set = move |plan: &mut Plan, before: i128, own: i128| {
+        plan.number = plan.number.max(1);
+        let at = plan.number as usize;
+        (plan.ends[at - 1][column], plan.ends[at][column]) = (before, own);
+    };
+    let first = move |plan: &mut Plan, own: i128| {
+        plan.number = 0;
+        plan.ends[0][column] = own;
+    };
     vec![
-        fault(BAD_OFFSETS, "an end that does not rise", |plan: &mut Plan, rng| {
-            let (at, column) = (plan.number as usize, rng.below(2));
-            plan.ends[at][column] = plan.ends[at - 1][column] - rng.below(2) as i128;
-        }),
-        fault(BAD_OFFSETS, "the end before below -1", |plan, rng| {
-            plan.ends[plan.number as usize - 1][rng.below(2)] = *rng.pick(&[-2, -3, -(1 << 63)]);
-        }),
-        fault(BAD_OFFSETS, "an end above the last", |plan, rng| {
-            plan.ends[plan.number as usize][rng.below(2)] =
-                *rng.pick(&[LAST_END + 1, 1 << 32, (1 << 32) + 700, (1 << 63) - 1]);
-        }),
+        rule(BAD_OFFSETS, of("the first metadata end is above -1", "the first packet end is above -1"))
+            .passes("0", move |plan: &mut Plan| first(plan, 0))
+            .breaks("-1", move |plan| first(plan, -1)),
+        rule(
+            BAD_OFFSETS,
+            of("the metadata end is above the one before", "the packet end is above the one before"),
+        )
+        .passes("one above", move |plan: &mut Plan| set(plan, 5, 6))
+        .breaks("the same", move |plan| set(plan, 5, 5))
+        .breaks("one below", move |plan| set(plan, 5, 4))
+        .breaks("-1 after -1", move |plan| set(plan, -1, -1)),
+        rule(
+            BAD_OFFSETS,
+            of("the metadata end before is at least -1", "the packet end before is at least -1"),
+        )
+        .passes("-1", move |plan: &mut Plan| set(plan, -1, 7))
+        .breaks("-2", move |plan| set(plan, -2, 7))
+        .breaks("-2^63", move |plan| set(plan, -(1 << 63), (1 << 63) - 1)),
+        rule(
+            BAD_OFFSETS,
+            of("the metadata end is at most 2,147,483,646", "the packet end is at most 2,147,483,646"),
+        )
+        .passes("2,147,483,646", move |plan: &mut Plan| set(plan, 5, LAST_END))
+        .passes("2,147,483,646 after -1", move |plan| set(plan, -1, LAST_END))
+        .breaks("2,147,483,647", move |plan| set(plan, 5, LAST_END + 1))
+        .breaks("2^32 + 700", move |plan| set(plan, 5, (1 << 32) + 700)),
     ]
+}
+
+/// The rules are the same for every lookup.
+const TITLE: &str = "any";
+
+pub fn orders() -> Vec<Order> {
+    vec![order(LOOKUP, TITLE, &rules())]
 }
 
 pub fn planned(rng: &mut Rng, samples: &Samples) -> Vec<Case> {
     let mut cases = Vec::new();
-    for _ in 0..5 {
-        for Damaged { plan, number, note } in alone_and_in_pairs(&faults(), rng, to_damage) {
-            cases.push(Case::aimed(plan.call(), number, note));
-        }
+    for _ in 0..2 {
+        cases.extend(sides_and_pairs(TITLE, &rules(), rng, to_damage, |plan, _| plan.call()));
     }
     cases.extend(limits(rng));
     cases.extend(first_ones(rng));
@@ -225,7 +269,7 @@ pub fn random(rng: &mut Rng) -> Case {
         }
         4..=6 => {
             let plan = to_damage(rng);
-            let Damaged { plan, number, note } = by_chance(&faults(), rng, plan);
+            let Damaged { plan, number, note } = by_chance(&rules(), rng, plan);
             Case::aimed(plan.call(), number, note)
         }
         _ => {

@@ -2,44 +2,60 @@
 //! limit, two faults at once, real samples, and random changes. The same seed makes the same cases.
 
 pub mod decode_cases;
+pub mod decode_rules;
 pub mod dna;
-pub mod faults;
-pub mod index_faults;
+pub mod index_rules;
 pub mod label_cases;
+pub mod large;
 pub mod lookup_cases;
+pub mod metadata_rules;
 pub mod nodes;
+pub mod order;
 pub mod pack_cases;
 pub mod record_cases;
 pub mod record_faults;
+pub mod record_rules;
 pub mod rng;
+pub mod rules;
 pub mod runs;
 pub mod samples;
 pub mod set_cases;
-pub mod set_faults;
+pub mod set_rules;
 pub mod sets;
 pub mod unpack_cases;
+pub mod unpack_rules;
 pub mod volume_cases;
+pub mod volume_rules;
 pub mod volumes;
 
 use crate::call::*;
+use order::{Order, Shows};
 use rng::Rng;
 use samples::Samples;
 
-/// A call to compare. `aim` is the number that the generator means to reach, where it knows it.
+/// A call to compare. `aim` is the number that the generator means to reach, where it knows it; `shows` is what the
+/// case shows of the order of refusals.
 #[derive(Clone, Debug)]
 pub struct Case {
     pub call: Call,
     pub aim: Option<u32>,
     pub note: String,
+    pub shows: Option<Shows>,
 }
 
 impl Case {
     pub fn aimed(call: Call, aim: u32, note: impl Into<String>) -> Case {
-        Case { call, aim: Some(aim), note: note.into() }
+        Case { call, aim: Some(aim), note: note.into(), shows: None }
     }
 
     pub fn free(call: Call, note: impl Into<String>) -> Case {
-        Case { call, aim: None, note: note.into() }
+        Case { call, aim: None, note: note.into(), shows: None }
+    }
+
+    /// The same case, said to show a side of a rule or a pair of rules.
+    pub fn showing(mut self, shows: Shows) -> Case {
+        self.shows = Some(shows);
+        self
     }
 }
 
@@ -60,13 +76,11 @@ pub const GENERATED: [u8; 12] = [
 ];
 
 /// The cases of a call: every planned one, then random ones until there are as many as asked.
-pub fn cases(byte: u8, seed: u64, count: usize, samples: &Samples) -> Vec<Case> {
+pub fn cases(byte: u8, seed: u64, count: usize, samples: &Samples) -> impl Iterator<Item = Case> {
     let mut rng = Rng::new(seed.wrapping_mul(1_000_003).wrapping_add(byte as u64));
-    let mut cases = planned(byte, &mut rng, samples);
-    while cases.len() < count {
-        cases.push(random(byte, &mut rng));
-    }
-    cases
+    let planned = planned(byte, &mut rng, samples);
+    let more = count.saturating_sub(planned.len());
+    planned.into_iter().chain((0..more).map(move |_| random(byte, &mut rng)))
 }
 
 /// Cases that are made in every comparison, whatever the count.
@@ -80,6 +94,21 @@ pub fn planned(byte: u8, rng: &mut Rng, samples: &Samples) -> Vec<Case> {
         LABEL => label_cases::planned(rng, samples),
         PACK | CONSOLE_PACK => pack_cases::planned(byte, rng, samples),
         UNPACK | CONSOLE_UNPACK => unpack_cases::planned(byte, rng, samples),
+        other => panic!("no generator for call {other}"),
+    }
+}
+
+/// The orders of refusals of a call, one for each kind of input that has rules of its own.
+pub fn orders(byte: u8) -> Vec<Order> {
+    match byte {
+        VOLUME_CHECK | CONSOLE_VOLUME_CHECK => volume_cases::orders(byte),
+        DECODE => decode_cases::orders(),
+        SET_CHECK => set_cases::orders(),
+        LOOKUP => lookup_cases::orders(),
+        IDENTIFIER | WALKER_STEP => record_cases::orders(byte),
+        LABEL => label_cases::orders(),
+        PACK | CONSOLE_PACK => pack_cases::orders(byte),
+        UNPACK | CONSOLE_UNPACK => unpack_cases::orders(byte),
         other => panic!("no generator for call {other}"),
     }
 }

@@ -1,7 +1,8 @@
 //! Cases for packing: on packets, and the console's.
 
-use super::faults::{alone_and_in_pairs, by_chance, fault, Damaged, Fault};
+use super::order::Order;
 use super::rng::Rng;
+use super::rules::{by_chance, order, rule, sides_and_pairs, Damaged, Rule};
 use super::runs;
 use super::samples::Samples;
 use super::Case;
@@ -51,22 +52,75 @@ impl Plan {
     }
 }
 
-/// The faults of packing in the order of its refusals; the last is the console's alone.
-fn faults(byte: u8) -> Vec<Fault<Plan>> {
-    let mut faults = vec![
-        fault(WRONG_TYPE, "no such alphabet", |plan: &mut Plan, rng| {
-            plan.alphabet = runs::wrong_alphabet(rng)
-        }),
-        fault(BAD_CODE, "a code above the last", spoil_code),
-        fault(NO_ROOM, "one packet too few", |plan, _| plan.room = run_end(plan) - 1),
-        fault(NO_ROOM, "the place at the end", |plan, _| plan.place = plan.room as u64),
-        fault(NO_ROOM, "a huge place", |plan, rng| plan.place = huge_place(rng)),
-        fault(NO_ROOM, "no buffer", |plan, _| (plan.room, plan.place) = (0, 0)),
-    ];
+/// The rules of packing in the order of its refusals.
+fn rules(byte: u8, alphabet: Alphabet) -> Vec<Rule<Plan>> {
+    let mut rules = vec![alphabet_rule(alphabet), code_rule(alphabet), fits_rule(), place_rule()];
     if byte == CONSOLE_PACK {
-        faults.push(fault(NO_ROOM, "results too short", |plan, rng| plan.results = rng.below(16)));
+        rules.push(
+            rule(NO_ROOM, "only whole packets of the buffer count")
+                .passes("3 bytes behind the last that is needed", |plan: &mut Plan| {
+                    (plan.room, plan.spare) = (run_end(plan), 3)
+                })
+                .breaks("3 bytes of the last that is needed", |plan| {
+                    (plan.room, plan.spare) = (run_end(plan) - 1, 3)
+                }),
+        );
+        rules.push(
+            rule(NO_ROOM, "the results have 16 bytes")
+                .passes("16", |plan: &mut Plan| plan.results = 16)
+                .breaks("15", |plan| plan.results = 15)
+                .farther(|plan, rng| plan.results = rng.below(16)),
+        );
     }
-    faults
+    rules
+}
+
+fn alphabet_rule(alphabet: Alphabet) -> Rule<Plan> {
+    let rule = rule(WRONG_TYPE, "the alphabet is 1, 2 or 3")
+        .breaks("0", |plan: &mut Plan| plan.alphabet = 0)
+        .breaks("4", |plan| plan.alphabet = 4)
+        .farther(|plan, rng| plan.alphabet = runs::wrong_alphabet(rng));
+    match alphabet {
+        Alphabet::Nucleic => rule.passes("1", |plan| plan.alphabet = 1).passes("2", |plan| plan.alphabet = 2),
+        Alphabet::Amino => rule.passes("3", |plan| plan.alphabet = 3),
+    }
+}
+
+fn code_rule(alphabet: Alphabet) -> Rule<Plan> {
+    let first_bad = alphabet.letters().len() as u8;
+    rule(BAD_CODE, "each code is valid")
+        .passes(format!("{} as the first", first_bad - 1), move |plan: &mut Plan| {
+            plan.codes[0] = first_bad - 1;
+            plan.room = run_end(plan);
+        })
+        .passes(format!("{} as the last", first_bad - 1), move |plan| {
+            *plan.codes.last_mut().expect("a code") = first_bad - 1;
+            plan.room = run_end(plan);
+        })
+        .breaks(format!("{first_bad} as the first"), move |plan| plan.codes[0] = first_bad)
+        .breaks(format!("{first_bad} as the last"), move |plan| {
+            *plan.codes.last_mut().expect("a code") = first_bad
+        })
+        .farther(spoil_code)
+}
+
+fn fits_rule() -> Rule<Plan> {
+    rule(NO_ROOM, "the run ends within the buffer")
+        .passes("at its end", |plan: &mut Plan| (plan.room, plan.spare) = (run_end(plan), 0))
+        .breaks("one packet behind", |plan| (plan.room, plan.spare) = (run_end(plan) - 1, 0))
+}
+
+fn place_rule() -> Rule<Plan> {
+    rule(NO_ROOM, "the place lies within the buffer")
+        .passes("the last packet, for a run of one", |plan: &mut Plan| {
+            plan.codes.truncate(6);
+            plan.place = plan.room as u64 - 1;
+        })
+        .breaks("the buffer's length", |plan| plan.place = plan.room as u64)
+        .breaks("0 in no buffer", |plan| (plan.room, plan.spare, plan.place) = (0, 0, 0))
+        .breaks("2^62, which times 4 is 0 in 64 bits", |plan| plan.place = 1 << 62)
+        .breaks("2^64 - 1", |plan| plan.place = u64::MAX)
+        .farther(|plan, rng| plan.place = huge_place(rng))
 }
 
 /// Where the run ends in the buffer, in packets. A huge place is cut: no buffer has it either way.
@@ -83,19 +137,23 @@ fn huge_place(rng: &mut Rng) -> u64 {
 
 fn spoil_code(plan: &mut Plan, rng: &mut Rng) {
     let first_bad = if plan.alphabet == 3 { 28 } else { 16 };
-    if plan.codes.is_empty() {
-        plan.codes.push(0);
-    }
     let at = *rng.pick(&[0, plan.codes.len() - 1, rng.clone().below(plan.codes.len())]);
     plan.codes[at] = *rng.pick(&[first_bad, first_bad, 30, 31, 32, 128, 255]);
 }
 
+/// A plan in which every rule can be broken: it has a code.
+fn to_damage(alphabet: Alphabet, rng: &mut Rng) -> Plan {
+    let number = if alphabet == Alphabet::Amino { 3 } else { rng.between(1, 2) as u64 };
+    let length = runs::length(rng).max(1);
+    Plan::new(number, alphabet, runs::codes(alphabet, length, rng), rng)
+}
+
 pub fn planned(byte: u8, rng: &mut Rng, samples: &Samples) -> Vec<Case> {
     let mut cases = Vec::new();
-    for _ in 0..4 {
-        for Damaged { plan, number, note } in alone_and_in_pairs(&faults(byte), rng, Plan::by_chance) {
-            cases.push(Case::aimed(plan.call(byte, rng), number, note));
-        }
+    for (alphabet, title) in runs::ALPHABETS {
+        let rules = rules(byte, alphabet);
+        let call = |plan: &Plan, rng: &mut Rng| plan.clone().call(byte, rng);
+        cases.extend(sides_and_pairs(title, &rules, rng, |rng| to_damage(alphabet, rng), call));
     }
     cases.extend(every_code(byte, rng));
     cases.extend(lengths(byte, rng));
@@ -105,6 +163,10 @@ pub fn planned(byte: u8, rng: &mut Rng, samples: &Samples) -> Vec<Case> {
         cases.extend(result_sizes(byte, rng));
     }
     cases
+}
+
+pub fn orders(byte: u8) -> Vec<Order> {
+    runs::ALPHABETS.map(|(alphabet, title)| order(byte, title, &rules(byte, alphabet))).to_vec()
 }
 
 /// Every code around the last valid one, in each alphabet.
@@ -189,10 +251,11 @@ fn real(byte: u8, rng: &mut Rng, samples: &Samples) -> Vec<Case> {
 }
 
 pub fn random(byte: u8, rng: &mut Rng) -> Case {
-    let plan = Plan::by_chance(rng);
     if rng.chance(50) {
-        return Case::aimed(plan.call(byte, rng), 0, "valid");
+        return Case::aimed(Plan::by_chance(rng).call(byte, rng), 0, "valid");
     }
-    let Damaged { plan, number, note } = by_chance(&faults(byte), rng, plan);
+    let (alphabet, _) = *rng.pick(&runs::ALPHABETS);
+    let plan = to_damage(alphabet, rng);
+    let Damaged { plan, number, note } = by_chance(&rules(byte, alphabet), rng, plan);
     Case::aimed(plan.call(byte, rng), number, note)
 }

@@ -1,9 +1,11 @@
 //! Cases for the walker's step and the identifier call.
 
-use super::faults::{alone_and_in_pairs, by_chance, fault, Damaged, Fault};
 use super::nodes::{self, Node};
+use super::order::Order;
 use super::record_faults::*;
+use super::record_rules::{self, Parts, ARRANGEMENTS};
 use super::rng::Rng;
+use super::rules::{by_chance, lifted, order, rule, sides_and_pairs, Damaged, Rule};
 use super::samples::Samples;
 use super::Case;
 use crate::answers::*;
@@ -15,7 +17,7 @@ use crate::index::read_index;
 #[derive(Clone, Debug)]
 struct Plan {
     before: Vec<u8>,
-    lines: Vec<Vec<Node>>,
+    record: Parts,
     after: Vec<u8>,
     moved: Option<(u64, u64)>,
     number: u64,
@@ -24,7 +26,8 @@ struct Plan {
 impl Plan {
     fn new(lines: Vec<Vec<Node>>, rng: &mut Rng) -> Plan {
         let around = [*rng.pick(&[0, 0, 1, 7]), *rng.pick(&[0, 0, 1, 7])];
-        Plan { before: rng.bytes(around[0]), lines, after: rng.bytes(around[1]), moved: None, number: 0 }
+        let record = Parts::new(lines);
+        Plan { before: rng.bytes(around[0]), record, after: rng.bytes(around[1]), moved: None, number: 0 }
     }
 
     /// A record that has what the call asks for.
@@ -42,15 +45,17 @@ impl Plan {
 
     /// How many titles or identifiers there are.
     fn count(&self, byte: u8) -> usize {
-        nodes::count_of(&self.lines, byte == WALKER_STEP)
+        nodes::count_of(&self.record.lines, byte == WALKER_STEP)
     }
 
     fn call(&self, byte: u8) -> Call {
-        call_on(&self.before, &nodes::record(&self.lines), &self.after, self.moved, self.number, byte)
+        call_on(&self.before, &self.record.bytes(), &self.after, self.moved, self.number, byte)
     }
 
-    fn file_length(&self) -> u64 {
-        (self.before.len() + nodes::record(&self.lines).len() + self.after.len()) as u64
+    /// Where the record starts and ends, and the file's length.
+    fn places(&self) -> (u64, u64, u64) {
+        let (start, length) = (self.before.len() as u64, self.record.bytes().len() as u64);
+        (start, start + length, start + length + self.after.len() as u64)
     }
 }
 
@@ -69,64 +74,63 @@ fn call_on(
     Call::new(byte, [vec![Argument::Range(file)], numbers.to_vec()].concat())
 }
 
-/// Three def-lines, so that faults can stand to the left and to the right of another.
-fn to_damage(byte: u8, rng: &mut Rng) -> Plan {
-    let mut plan = Plan::by_chance(byte, rng);
-    while plan.lines.len() < 3 {
-        plan.lines.push(nodes::fields(rng));
-    }
-    plan
+/// Three def-lines to break rules in, to the left and to the right of each other, and one that has a title and an
+/// identifier. The number is the first.
+fn to_damage(rng: &mut Rng) -> Plan {
+    let mut lines: Vec<Vec<Node>> = (0..3).map(|_| nodes::fields(rng)).collect();
+    let identifiers = Node::List(vec![nodes::identifier(rng)]);
+    lines.push(vec![nodes::choice(0xA0, nodes::text(rng)), nodes::choice(0xA1, identifiers)]);
+    Plan::new(lines, rng)
 }
 
-/// In the order of the refusals: the place; the nesting left to right, 20 or 21; the shape; the number.
-fn faults() -> Vec<Fault<Plan>> {
-    let mut faults = place_faults();
-    faults.extend([
-        fault(BAD_RECORD, "malformed on the left", |plan: &mut Plan, rng| plan.lines[0] = malformed(rng)),
-        fault(BAD_RECORD, "wrong at depth 17 on the left", |plan, rng| {
-            plan.lines[0] = vec![in_identifier(wrong_at_the_bottom(7, rng))];
-        }),
-        fault(TOO_DEEP, "too deep", |plan, rng| plan.lines[1].push(too_deep(3, rng))),
-        fault(TOO_DEEP, "too deep in an identifier", |plan, rng| {
-            plan.lines[1] = vec![in_identifier(too_deep(7, rng))];
-        }),
-        fault(BAD_RECORD, "malformed on the right", |plan, rng| plan.lines[2] = malformed(rng)),
-        fault(BAD_RECORD, "a wrong shape on the left", |plan, rng| plan.lines[0] = wrong_shape(rng)),
-        fault(BAD_RECORD, "a wrong shape on the right", |plan, rng| plan.lines[2] = wrong_shape(rng)),
-        fault(NO_SUCH_NUMBER, "a number far above", |plan, rng| {
-            plan.number += *rng.pick(&[100, 1 << 32, 1 << 63, u64::MAX - 3000]);
-        }),
-    ]);
-    faults
+/// In the order of the refusals: the place, the record, the number.
+fn rules(byte: u8, arrangement: &'static str) -> Vec<Rule<Plan>> {
+    let mut rules = place_rules();
+    rules.extend(lifted(record_rules::rules(arrangement), |plan: &mut Plan| &mut plan.record));
+    rules.push(
+        rule(NO_SUCH_NUMBER, "the number is below how many there are")
+            .passes("one less than there are", move |plan: &mut Plan| {
+                plan.number = plan.count(byte) as u64 - 1
+            })
+            .breaks("as many as there are", move |plan| plan.number = plan.count(byte) as u64)
+            .farther(|plan, rng| plan.number = *rng.pick(&[1000, 1 << 32, 1 << 63, u64::MAX])),
+    );
+    rules
 }
 
-fn place_faults() -> Vec<Fault<Plan>> {
+fn place_rules() -> Vec<Rule<Plan>> {
     vec![
-        fault(ENDS_TOO_EARLY, "an end past the file", |plan: &mut Plan, rng| {
-            let length = plan.file_length();
-            let end = *rng.pick(&[length + 1, (1 << 32) + length, 1 << 63, u64::MAX]);
-            plan.moved = Some((plan.before.len() as u64, end));
-        }),
-        fault(ENDS_TOO_EARLY, "a start above the end", |plan, rng| {
-            let start = rng.below(plan.file_length() as usize) as u64 + 1;
-            plan.moved = Some((start, start - 1));
-        }),
-        fault(ENDS_TOO_EARLY, "both past the file", |plan, rng| {
-            let place = *rng.pick(&[plan.file_length() + 1, 1 << 32, u64::MAX]);
-            plan.moved = Some((place, place));
-        }),
-        fault(ENDS_TOO_EARLY, "a huge start", |plan, rng| {
-            plan.moved = Some((*rng.pick(&[1 << 32, 1 << 63, u64::MAX]), plan.before.len() as u64));
-        }),
+        rule(ENDS_TOO_EARLY, "the start is at most the end")
+            .leads_to(BAD_RECORD, "the same", |plan: &mut Plan| {
+                plan.moved = Some((plan.places().0, plan.places().0))
+            })
+            .breaks("one above", |plan| plan.moved = Some((plan.places().0 + 1, plan.places().0)))
+            .farther(|plan, rng| {
+                plan.moved = Some((*rng.pick(&[1 << 32, 1 << 63, u64::MAX]), plan.places().1));
+            }),
+        rule(ENDS_TOO_EARLY, "the end is at most the file's length")
+            .passes("the length", |plan: &mut Plan| plan.after.clear())
+            .breaks("one more", |plan| plan.moved = Some((plan.places().0, plan.places().2 + 1)))
+            .breaks("one more, and the start too", |plan| {
+                plan.moved = Some((plan.places().2 + 1, plan.places().2 + 1))
+            })
+            .breaks("2^64 - 1", |plan| plan.moved = Some((plan.places().0, u64::MAX)))
+            .farther(|plan, rng| {
+                let (start, _, length) = plan.places();
+                plan.moved = Some((start, *rng.pick(&[(1 << 32) + length, 1 << 63])));
+            }),
     ]
+}
+
+pub fn orders(byte: u8) -> Vec<Order> {
+    ARRANGEMENTS.map(|title| order(byte, title, &rules(byte, title))).to_vec()
 }
 
 pub fn planned(byte: u8, rng: &mut Rng, samples: &Samples) -> Vec<Case> {
     let mut cases = Vec::new();
-    for _ in 0..8 {
-        for Damaged { plan, number, note } in alone_and_in_pairs(&faults(), rng, |rng| to_damage(byte, rng)) {
-            cases.push(Case::aimed(plan.call(byte), number, note));
-        }
+    for title in ARRANGEMENTS {
+        let call = |plan: &Plan, _: &mut Rng| plan.call(byte);
+        cases.extend(sides_and_pairs(title, &rules(byte, title), rng, to_damage, call));
     }
     cases.extend(numbers(byte, rng));
     cases.extend(depths(byte, rng));
@@ -189,7 +193,7 @@ fn whole_records(byte: u8, rng: &mut Rng) -> Vec<Case> {
     let mut cases = Vec::new();
     let mut bad = wrong_records(rng);
     bad.extend([vec![], vec![0], vec![0, 0], vec![0x30], vec![0x30, 0x80], vec![0x30, 0x80, 0]]);
-    let valid = nodes::record(&Plan::by_chance(byte, rng).lines);
+    let valid = Plan::by_chance(byte, rng).record.bytes();
     for behind in [vec![0], vec![0, 0], vec![0x02, 0x01, 0x05], valid.clone()] {
         bad.push([valid.clone(), behind].concat());
     }
@@ -211,7 +215,7 @@ fn every_fault(byte: u8, rng: &mut Rng) -> Vec<Case> {
     for line in lines {
         let mut plan = Plan::by_chance(byte, rng);
         let note = format!("{line:02x?}");
-        plan.lines.push(line);
+        plan.record.lines.push(line);
         cases.push(Case::aimed(plan.call(byte), BAD_RECORD, note));
     }
     cases
@@ -258,8 +262,9 @@ pub fn random(byte: u8, rng: &mut Rng) -> Case {
     match rng.below(10) {
         0..=3 => Case::aimed(Plan::by_chance(byte, rng).call(byte), 0, "valid"),
         4..=5 => {
-            let plan = to_damage(byte, rng);
-            let Damaged { plan, number, note } = by_chance(&faults(), rng, plan);
+            let plan = to_damage(rng);
+            let rules = rules(byte, rng.pick::<&'static str>(&ARRANGEMENTS));
+            let Damaged { plan, number, note } = by_chance(&rules, rng, plan);
             Case::aimed(plan.call(byte), number, note)
         }
         6..=7 => {
@@ -269,7 +274,7 @@ pub fn random(byte: u8, rng: &mut Rng) -> Case {
         _ => {
             let mut plan = Plan::by_chance(byte, rng);
             plan.before.clear();
-            let mut record = nodes::record(&plan.lines);
+            let mut record = plan.record.bytes();
             let place = rng.below(record.len());
             record[place] =
                 *rng.pick(&[0x00, 0x01, 0x02, 0x1A, 0x30, 0x80, 0x81, 0x84, 0xA0, 0xA1, 0xAB, 0xB3, 0xB4]);

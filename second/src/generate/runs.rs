@@ -4,6 +4,9 @@ use super::rng::Rng;
 use crate::packets::{five_bit_packet, Packet};
 use crate::residues::Alphabet;
 
+/// The alphabets, and what their rules are called.
+pub const ALPHABETS: [(Alphabet, &str); 2] = [(Alphabet::Nucleic, "nucleic"), (Alphabet::Amino, "amino")];
+
 /// Lengths around the sizes of packets, now and then a longer one.
 pub fn length(rng: &mut Rng) -> usize {
     match rng.below(20) {

@@ -1,23 +1,27 @@
 //! Cases for the set check.
 
-use super::faults::{alone_and_in_pairs, by_chance, Change, Damaged};
+use super::order::Order;
 use super::rng::Rng;
+use super::rules::{by_chance, order, sides_and_pairs, Change, Damaged};
 use super::runs;
 use super::samples::Samples;
-use super::set_faults::faults;
-use super::sets::{Plan, Record};
+use super::set_rules::rules;
+use super::sets::{tag, Plan, Record};
 use super::Case;
 use crate::answers::*;
 use crate::call::*;
 use crate::fields::little_bytes;
+use crate::residues::Alphabet;
 
-/// A set that every fault can be put into: several sequences, the last with a run of two packets.
-fn to_damage(rng: &mut Rng) -> Plan {
-    let n = rng.between(2, 5);
-    let (number, alphabet) = runs::alphabet(rng);
+/// A set in which every rule can be broken: at least three sequences, each with a run of two packets.
+fn to_damage(alphabet: Alphabet, rng: &mut Rng) -> Plan {
+    let n = rng.between(3, 5);
+    let number = if alphabet == Alphabet::Amino { 3 } else { rng.between(1, 2) };
     let all: Vec<Vec<u32>> = (0..n).map(|_| runs::numbers(&runs::run(alphabet, 2, rng))).collect();
     let records = (0..n).map(|_| Record::by_chance(rng)).collect();
-    Plan::new(number as i128, &all, records, rng)
+    let mut plan = Plan::new(number as i128, &all, records, tag(rng));
+    plan.at = rng.below(n);
+    plan
 }
 
 fn call(plan: &Plan) -> Call {
@@ -27,10 +31,9 @@ fn call(plan: &Plan) -> Call {
 
 pub fn planned(rng: &mut Rng, samples: &Samples) -> Vec<Case> {
     let mut cases = Vec::new();
-    for _ in 0..3 {
-        for Damaged { plan, number, note } in alone_and_in_pairs(&faults(), rng, to_damage) {
-            cases.push(Case::aimed(call(&plan), number, note));
-        }
+    for (alphabet, title) in runs::ALPHABETS {
+        let valid = |rng: &mut Rng| to_damage(alphabet, rng);
+        cases.extend(sides_and_pairs(title, &rules(alphabet), rng, valid, |plan, _| call(plan)));
     }
     cases.extend(small_sets(rng));
     cases.extend(texts(rng));
@@ -42,6 +45,10 @@ pub fn planned(rng: &mut Rng, samples: &Samples) -> Vec<Case> {
         cases.push(Case::free(call, format!("the set {}", set.name)));
     }
     cases
+}
+
+pub fn orders() -> Vec<Order> {
+    runs::ALPHABETS.map(|(alphabet, title)| order(SET_CHECK, title, &rules(alphabet))).to_vec()
 }
 
 /// No sequence, one, many; and bodies where there should be none.
@@ -68,8 +75,8 @@ fn small_sets(rng: &mut Rng) -> Vec<Case> {
 
 /// A set of one sequence with this metadata.
 fn with_record(record: Record, rng: &mut Rng) -> Call {
-    let run = runs::numbers(&runs::run(crate::residues::Alphabet::Amino, 1, rng));
-    call(&Plan::new(3, &[run], vec![record], rng))
+    let run = runs::numbers(&runs::run(Alphabet::Amino, 1, rng));
+    call(&Plan::new(3, &[run], vec![record], tag(rng)))
 }
 
 /// Every byte in every text.
@@ -122,8 +129,9 @@ pub fn random(rng: &mut Rng) -> Case {
             Case::aimed(call(&Plan::by_chance(n, rng)), 0, "valid")
         }
         4..=6 => {
-            let plan = to_damage(rng);
-            let Damaged { plan, number, note } = by_chance(&faults(), rng, plan);
+            let (alphabet, _) = *rng.pick(&runs::ALPHABETS);
+            let plan = to_damage(alphabet, rng);
+            let Damaged { plan, number, note } = by_chance(&rules(alphabet), rng, plan);
             Case::aimed(call(&plan), number, note)
         }
         _ => {

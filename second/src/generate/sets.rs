@@ -7,7 +7,8 @@ use crate::fields::little_bytes;
 use crate::packets::{residues_of, run_of};
 use crate::residues::Alphabet;
 
-/// A set. `longest` is of names, accessions, descriptions and sequences. `index_length` cuts the index.
+/// A set. `longest` is of names, accessions, descriptions and sequences; a length given for a file cuts it; `at` is the
+/// sequence whose metadata gets a fault.
 #[derive(Clone, Debug)]
 pub struct Plan {
     pub magics: [i128; 3],
@@ -27,6 +28,7 @@ pub struct Plan {
     pub metadata: Vec<u8>,
     pub packets: Vec<u32>,
     pub odd: Vec<u8>,
+    pub at: usize,
 }
 
 /// A metadata record in its parts; `closing` stands behind the description's NUL.
@@ -65,6 +67,11 @@ fn line(length: usize, rng: &mut Rng) -> Vec<u8> {
     (0..length).map(|_| *rng.pick(b"abc XYZ\t\r\x0b\x0c,.\x01\x80\xff")).collect()
 }
 
+/// A tag that the three files of a set have.
+pub fn tag(rng: &mut Rng) -> i128 {
+    *rng.pick(&[0, 1, 0xFFFF_FFFF, rng.clone().number() as u32 as i128])
+}
+
 /// A run as packing makes it, or another well-formed one.
 fn run(alphabet: Alphabet, rng: &mut Rng) -> Vec<u32> {
     if rng.chance(50) {
@@ -81,12 +88,11 @@ impl Plan {
         let (number, alphabet) = runs::alphabet(rng);
         let all: Vec<Vec<u32>> = (0..n).map(|_| run(alphabet, rng)).collect();
         let records: Vec<Record> = (0..n).map(|_| Record::by_chance(rng)).collect();
-        Plan::new(number as i128, &all, records, rng)
+        Plan::new(number as i128, &all, records, tag(rng))
     }
 
     /// A valid set of these runs and records.
-    pub fn new(alphabet: i128, runs: &[Vec<u32>], records: Vec<Record>, rng: &mut Rng) -> Plan {
-        let tag = *rng.pick(&[0, 1, 0xFFFF_FFFF, rng.clone().number() as u32 as i128]);
+    pub fn new(alphabet: i128, runs: &[Vec<u32>], records: Vec<Record>, tag: i128) -> Plan {
         let lengths: Vec<i128> = runs.iter().map(|run| residues_of(run).len() as i128).collect();
         let mut plan = Plan {
             magics: [MAGIC; 3],
@@ -106,6 +112,7 @@ impl Plan {
             metadata: vec![],
             packets: vec![],
             odd: vec![],
+            at: 0,
         };
         for run in runs {
             plan.packets.extend(run);
@@ -126,12 +133,35 @@ impl Plan {
     }
 
     pub fn state_longest_texts(&mut self) {
+        self.longest[..3].fill(0);
         for record in &self.records {
             let lengths = [record.name.len(), record.accession.len(), record.description.len()];
             for (k, length) in lengths.iter().enumerate() {
                 self.longest[k] = self.longest[k].max(*length as i128);
             }
         }
+    }
+
+    /// Where a sequence's metadata begins in its body.
+    pub fn metadata_start(&self, at: usize) -> usize {
+        if at == 0 {
+            0
+        } else {
+            self.metadata_ends[at - 1] as usize + 1
+        }
+    }
+
+    /// Puts another packet at a place, with the residue totals that are then right.
+    pub fn set_packet(&mut self, place: usize, packet: u32) {
+        self.packets[place] = packet;
+        let mut start = 0;
+        let mut lengths = Vec::new();
+        for end in &self.packet_ends {
+            lengths.push(residues_of(&self.packets[start..=*end as usize]).len() as i128);
+            start = *end as usize + 1;
+        }
+        self.residues = lengths.iter().sum();
+        self.longest[3] = lengths.iter().copied().max().unwrap_or(0);
     }
 
     pub fn index(&self) -> Vec<u8> {

@@ -1,8 +1,10 @@
 //! Cases for unpacking: on packets, and the console's.
 
-use super::faults::{alone_and_in_pairs, by_chance, fault, Damaged, Fault};
+use super::order::Order;
 use super::rng::Rng;
+use super::rules::{by_chance, order, sides_and_pairs, Damaged};
 use super::samples::Samples;
+use super::unpack_rules::rules;
 use super::{runs, Case};
 use crate::answers::*;
 use crate::call::*;
@@ -11,13 +13,13 @@ use crate::residues::Alphabet;
 
 /// What an unpacking call gets. `extra` bytes behind the packets and `results` only the console's call has.
 #[derive(Clone, Debug)]
-struct Plan {
-    number: u64,
-    alphabet: Alphabet,
-    packets: Vec<Packet>,
-    extra: usize,
-    room: usize,
-    results: usize,
+pub struct Plan {
+    pub number: u64,
+    pub alphabet: Alphabet,
+    pub packets: Vec<Packet>,
+    pub extra: usize,
+    pub room: usize,
+    pub results: usize,
 }
 
 impl Plan {
@@ -28,9 +30,9 @@ impl Plan {
     }
 
     /// A well-formed run of several packets, the last one with a residue and a 31.
-    fn to_damage(rng: &mut Rng) -> Plan {
-        let (number, alphabet) = runs::alphabet(rng);
-        let count = rng.between(2, 6);
+    fn to_damage(alphabet: Alphabet, rng: &mut Rng) -> Plan {
+        let number = if alphabet == Alphabet::Amino { 3 } else { rng.between(1, 2) as u64 };
+        let count = rng.between(3, 6);
         let mut packets = runs::run(alphabet, count, rng);
         let kept = rng.between(1, 5);
         let fields: Vec<u8> = (0..kept).map(|_| rng.below(16) as u8).collect();
@@ -59,84 +61,27 @@ impl Plan {
         Call::new(byte, vec![alphabet, Argument::Range(bytes), output, results])
     }
 
-    /// Some packet before the last.
-    fn inner(&mut self, rng: &mut Rng) -> &mut Packet {
-        let at = rng.below(self.packets.len() - 1);
+    pub fn last_but_one(&mut self) -> &mut Packet {
+        let at = self.packets.len() - 2;
         &mut self.packets[at]
     }
 
     /// How many residues the run has, or would have.
-    fn residues(&self) -> usize {
+    pub fn residues(&self) -> usize {
         residues_of(&runs::numbers(&self.packets)).len()
     }
 
-    fn last(&mut self) -> &mut Packet {
+    pub fn last(&mut self) -> &mut Packet {
         self.packets.last_mut().expect("the run has a packet")
     }
 }
 
-/// The faults of unpacking in the order of its refusals. Those of 17 are one number and in no order, so a pair
-/// of them is 17 too. The console has one more at each end.
-fn faults(byte: u8) -> Vec<Fault<Plan>> {
-    let mut faults: Vec<Fault<Plan>> = Vec::new();
-    if byte == CONSOLE_UNPACK {
-        faults.push(fault(ENDS_TOO_EARLY, "no multiple of 4", |plan, rng| plan.extra = rng.between(1, 3)));
-    }
-    faults.push(fault(WRONG_TYPE, "no such alphabet", |plan, rng| plan.number = runs::wrong_alphabet(rng)));
-    faults.extend(run_faults());
-    faults.push(fault(NO_ROOM, "one byte too few", |plan, _| plan.room = plan.residues() - 1));
-    if byte == CONSOLE_UNPACK {
-        faults.push(fault(NO_ROOM, "results too short", |plan, rng| plan.results = rng.below(16)));
-    }
-    faults
-}
-
-/// One fault for each part of "A run is well formed when ..".
-fn run_faults() -> Vec<Fault<Plan>> {
-    vec![
-        fault(BAD_RUN, "no bit 31 in the last", |plan: &mut Plan, _| plan.last().ends_run = false),
-        fault(BAD_RUN, "bit 31 before the last", |plan, rng| plan.inner(rng).ends_run = true),
-        fault(BAD_RUN, "a 2-bit packet in an amino run", |plan, rng| {
-            (plan.number, plan.alphabet) = (3, Alphabet::Amino);
-            *plan.inner(rng) = Packet { ends_run: false, five_bit: false, fields: vec![1; 15] };
-        }),
-        fault(BAD_RUN, "an invalid code", spoil_code),
-        fault(BAD_RUN, "a 31 before the last packet", |plan, rng| {
-            let kept = rng.between(1, 5);
-            *plan.inner(rng) = five_bit_packet(&vec![2; kept]);
-        }),
-        fault(BAD_RUN, "a code behind a 31", |plan, rng| {
-            let mut fields = vec![0; 6];
-            fields[rng.below(5)] = NO_RESIDUE;
-            *plan.last() = Packet { ends_run: true, five_bit: true, fields };
-        }),
-        fault(BAD_RUN, "an empty packet before the last", |plan, rng| {
-            *plan.inner(rng) = five_bit_packet(&[])
-        }),
-        fault(BAD_RUN, "an empty last packet", |plan, _| *plan.last() = Packet::of_number(u32::MAX)),
-        fault(BAD_RUN, "packets behind the run", |plan, rng| {
-            let more = runs::run(plan.alphabet, 1, rng);
-            plan.packets.extend(more);
-        }),
-    ]
-}
-
-fn spoil_code(plan: &mut Plan, rng: &mut Rng) {
-    let first_bad = plan.alphabet.letters().len() as u8;
-    let code = *rng.pick(&[first_bad, 29, 30]);
-    let mut fields = vec![0; 6];
-    fields[rng.below(6)] = code;
-    let at = rng.below(plan.packets.len());
-    plan.packets[at].five_bit = true;
-    plan.packets[at].fields = fields;
-}
-
 pub fn planned(byte: u8, rng: &mut Rng, samples: &Samples) -> Vec<Case> {
     let mut cases = Vec::new();
-    for _ in 0..2 {
-        for Damaged { plan, number, note } in alone_and_in_pairs(&faults(byte), rng, Plan::to_damage) {
-            cases.push(Case::aimed(plan.call(byte, rng), number, note));
-        }
+    for (alphabet, title) in runs::ALPHABETS {
+        let rules = rules(byte, alphabet);
+        let call = |plan: &Plan, rng: &mut Rng| plan.clone().call(byte, rng);
+        cases.extend(sides_and_pairs(title, &rules, rng, |rng| Plan::to_damage(alphabet, rng), call));
     }
     cases.extend(fields(byte, rng));
     cases.extend(rooms(byte, rng));
@@ -146,6 +91,10 @@ pub fn planned(byte: u8, rng: &mut Rng, samples: &Samples) -> Vec<Case> {
         cases.extend(byte_lengths(byte, rng));
     }
     cases
+}
+
+pub fn orders(byte: u8) -> Vec<Order> {
+    runs::ALPHABETS.map(|(alphabet, title)| order(byte, title, &rules(byte, alphabet))).to_vec()
 }
 
 /// Every value of a field, first, third and last of a last packet, and every length of its tail.
@@ -194,7 +143,8 @@ fn two_bit_ends(byte: u8, rng: &mut Rng) -> Vec<Case> {
 fn rooms(byte: u8, rng: &mut Rng) -> Vec<Case> {
     let mut cases = Vec::new();
     for _ in 0..12 {
-        let mut plan = Plan::to_damage(rng);
+        let (alphabet, _) = *rng.pick(&runs::ALPHABETS);
+        let mut plan = Plan::to_damage(alphabet, rng);
         plan.room = plan.residues();
         cases.push(Case::aimed(plan.clone().call(byte, rng), 0, "exactly enough room"));
         plan.room -= 1;
@@ -262,8 +212,9 @@ pub fn random(byte: u8, rng: &mut Rng) -> Case {
     match rng.below(10) {
         0..=4 => Case::aimed(Plan::by_chance(rng).call(byte, rng), 0, "valid"),
         5..=6 => {
-            let plan = Plan::to_damage(rng);
-            let Damaged { plan, number, note } = by_chance(&faults(byte), rng, plan);
+            let (alphabet, _) = *rng.pick(&runs::ALPHABETS);
+            let plan = Plan::to_damage(alphabet, rng);
+            let Damaged { plan, number, note } = by_chance(&rules(byte, alphabet), rng, plan);
             Case::aimed(plan.call(byte, rng), number, note)
         }
         _ => {

@@ -1,9 +1,10 @@
 //! Cases for the volume check: the library's, and the console's.
 
-use super::faults::{alone_and_in_pairs, by_chance, fault, Change, Damaged, Fault};
-use super::index_faults;
+use super::order::Order;
 use super::rng::Rng;
+use super::rules::{by_chance, order, sides_and_pairs, Damaged};
 use super::samples::Samples;
+use super::volume_rules::{rules, without_sequences};
 use super::volumes::*;
 use super::Case;
 use crate::answers::*;
@@ -16,11 +17,13 @@ fn volume(kind: i128, n: usize, rng: &mut Rng) -> Plan {
     Plan::new(kind, &stored, &records, rng)
 }
 
-/// A volume that every fault can be put into: a title, a timestamp, several sequences, some not empty.
+/// A volume in which every rule can be broken: a title, a timestamp, several sequences, some not empty. Its number
+/// is the sequence that rules of offsets are broken at.
 fn to_damage(kind: i128, rng: &mut Rng) -> Plan {
     loop {
         let n = rng.between(2, 6);
-        let plan = volume(kind, n, rng);
+        let mut plan = volume(kind, n, rng);
+        plan.number = rng.below(n) as u64;
         if !plan.title.is_empty() && !plan.timestamp.is_empty() && plan.header.len() > 1 && plan.count > 2 {
             return plan;
         }
@@ -28,7 +31,7 @@ fn to_damage(kind: i128, rng: &mut Rng) -> Plan {
 }
 
 fn call(plan: &Plan, byte: u8, rng: &mut Rng) -> Call {
-    let files = [plan.index(rng), plan.sequence.clone(), plan.header.clone()];
+    let files = [plan.index(), plan.sequence.clone(), plan.header.clone()];
     let mut arguments: Vec<Argument> = files.into_iter().map(Argument::Range).collect();
     if byte == CONSOLE_VOLUME_CHECK {
         arguments.push(Argument::Output(plan.results, rng.byte()));
@@ -36,121 +39,17 @@ fn call(plan: &Plan, byte: u8, rng: &mut Rng) -> Call {
     Call::new(byte, arguments)
 }
 
-/// All faults of the check in the order of its refusals; the last is the console's alone.
-fn faults(byte: u8, kind: i128) -> Vec<Fault<Plan>> {
-    let mut faults = index_faults::faults(kind);
-    faults.extend(header_faults());
-    faults.extend(if kind == 1 { protein_faults() } else { dna_faults() });
-    faults.extend(total_faults(kind));
-    if byte == CONSOLE_VOLUME_CHECK {
-        faults.push(fault(NO_ROOM, "results too short", |plan, rng| plan.results = rng.below(64)));
-    }
-    faults
-}
-
-/// A place in a table behind its first, and the last one.
-fn later(plan: &Plan, rng: &mut Rng) -> usize {
-    rng.between(1, plan.s.len() - 1)
-}
-
-/// One byte more or less.
-fn longer_or_shorter(file: &mut Vec<u8>, rng: &mut Rng) {
-    if rng.chance(50) {
-        file.push(0);
-    } else {
-        file.pop();
-    }
-}
-
-fn header_faults() -> Vec<Fault<Plan>> {
-    vec![
-        fault(BAD_OFFSETS, "the first header offset", |plan: &mut Plan, rng| {
-            plan.headers[0] = *rng.pick(&[1, -1])
-        }),
-        fault(BAD_OFFSETS, "header offsets fall", |plan, rng| {
-            let at = later(plan, rng);
-            plan.headers[at] = plan.headers[at - 1] - 1;
-        }),
-        fault(BAD_OFFSETS, "a header file of another length", |plan, rng| {
-            longer_or_shorter(&mut plan.header, rng)
-        }),
-    ]
-}
-
-/// Offsets, then separators.
-fn protein_faults() -> Vec<Fault<Plan>> {
-    vec![
-        fault(BAD_OFFSETS, "the first offset", |plan: &mut Plan, rng| plan.s[0] = *rng.pick(&[0, 2, -1])),
-        fault(BAD_OFFSETS, "offsets stand still", |plan, rng| {
-            let at = later(plan, rng);
-            plan.s[at] = plan.s[at - 1];
-        }),
-        fault(BAD_OFFSETS, "offsets fall", |plan, rng| {
-            let at = later(plan, rng);
-            plan.s[at] = *rng.pick(&[plan.s[at - 1] - 1, 0, -5]);
-        }),
-        fault(BAD_OFFSETS, "a file of another length", |plan, rng| {
-            longer_or_shorter(&mut plan.sequence, rng)
-        }),
-        fault(NO_SEPARATOR, "byte 0", |plan, rng| plan.sequence[0] = rng.between(1, 255) as u8),
-        fault(NO_SEPARATOR, "the byte before a later offset", |plan, rng| {
-            let at = later(plan, rng);
-            plan.sequence[plan.s[at] as usize - 1] = rng.between(1, 255) as u8;
-        }),
-    ]
-}
-
-fn dna_faults() -> Vec<Fault<Plan>> {
-    vec![
-        fault(BAD_OFFSETS, "the first offset", |plan: &mut Plan, rng| plan.s[0] = *rng.pick(&[1, -1])),
-        fault(BAD_OFFSETS, "no byte before the ambiguity offset", |plan, rng| {
-            let at = later(plan, rng) - 1;
-            plan.a[at] = plan.s[at] - rng.below(2) as i128;
-        }),
-        fault(BAD_OFFSETS, "an ambiguity offset past the next", |plan, rng| {
-            let at = later(plan, rng) - 1;
-            plan.a[at] = plan.s[at + 1] + 1;
-        }),
-        fault(BAD_OFFSETS, "the last offset", |plan, rng| {
-            *plan.s.last_mut().unwrap() = plan.sequence.len() as i128 + *rng.pick(&[1, -1]);
-        }),
-        fault(BAD_OFFSETS, "the last ambiguity offset", |plan, rng| {
-            *plan.a.last_mut().unwrap() = plan.sequence.len() as i128 + *rng.pick(&[1, -1]);
-        }),
-        fault(BAD_OFFSETS, "a file of another length", |plan, rng| {
-            longer_or_shorter(&mut plan.sequence, rng)
-        }),
-    ]
-}
-
-fn total_faults(kind: i128) -> Vec<Fault<Plan>> {
-    let mut faults = vec![
-        fault(WRONG_TOTALS, "the count one more", |plan: &mut Plan, _| plan.count += 1),
-        fault(WRONG_TOTALS, "the count one less", |plan, _| plan.count -= 1),
-        fault(WRONG_TOTALS, "the longest one more", |plan, _| plan.longest += 1),
-        fault(WRONG_TOTALS, "the longest one less", |plan, _| plan.longest -= 1),
-        fault(WRONG_TOTALS, "the largest count", |plan, _| plan.count = (1 << 63) - 1),
-        fault(WRONG_TOTALS, "the largest longest", |plan, _| plan.longest = 2_147_483_647),
-    ];
-    if kind == 0 {
-        faults.push(fault(WRONG_TOTALS, "the low two bits", |plan, rng| {
-            let at = later(plan, rng) - 1;
-            plan.sequence[plan.a[at] as usize - 1] ^= 2;
-        }));
-    }
-    // Two of these together could undo each other, so a pair has no aim; see `planned`.
-    faults
-}
-
 pub fn planned(byte: u8, rng: &mut Rng, samples: &Samples) -> Vec<Case> {
     let mut cases = Vec::new();
-    for kind in [0, 1] {
-        let damaged = alone_and_in_pairs(&faults(byte, kind), rng, |rng| to_damage(kind, rng));
-        for Damaged { plan, number, note } in damaged {
-            let call = call(&plan, byte, rng);
-            let both_totals = number == WRONG_TOTALS && note.contains(" and ");
-            cases.push(if both_totals { Case::free(call, note) } else { Case::aimed(call, number, note) });
-        }
+    for (kind, title) in KINDS {
+        let rules = rules(byte, kind);
+        let call = |plan: &Plan, rng: &mut Rng| call(plan, byte, rng);
+        cases.extend(sides_and_pairs(title, &rules, rng, |rng| to_damage(kind, rng), call));
+    }
+    for (kind, title) in WITHOUT_SEQUENCES {
+        let rules = without_sequences(byte, kind);
+        let call = |plan: &Plan, rng: &mut Rng| call(plan, byte, rng);
+        cases.extend(sides_and_pairs(title, &rules, rng, |rng| volume(kind, 0, rng), call));
     }
     cases.extend(small_volumes(byte, rng));
     cases.extend(short_indexes(byte, rng));
@@ -160,6 +59,15 @@ pub fn planned(byte: u8, rng: &mut Rng, samples: &Samples) -> Vec<Case> {
     }
     cases
 }
+
+pub fn orders(byte: u8) -> Vec<Order> {
+    let some = KINDS.map(|(kind, title)| order(byte, title, &rules(byte, kind)));
+    let none = WITHOUT_SEQUENCES.map(|(kind, title)| order(byte, title, &without_sequences(byte, kind)));
+    [some, none].concat()
+}
+
+/// Volumes without sequences have rules of their own behind those of the index.
+const WITHOUT_SEQUENCES: [(i128, &str); 2] = [(0, "DNA, no sequences"), (1, "protein, no sequences")];
 
 /// No sequence, one, and the most that the protocol has room for.
 fn small_volumes(byte: u8, rng: &mut Rng) -> Vec<Case> {
@@ -174,31 +82,6 @@ fn small_volumes(byte: u8, rng: &mut Rng) -> Vec<Case> {
             let plan = Plan::new(kind, &stored, &vec![vec![]; n], rng);
             cases.push(Case::aimed(call(&plan, byte, rng), 0, format!("a volume of {n}")));
         }
-        cases.extend(empty_volumes(kind, byte, rng));
-    }
-    cases
-}
-
-/// What a volume without sequences may not have.
-fn empty_volumes(kind: i128, byte: u8, rng: &mut Rng) -> Vec<Case> {
-    let changes: [(u32, &str, Change<Plan>); 6] = [
-        (BAD_OFFSETS, "a byte of header", |plan| plan.header.push(0)),
-        (BAD_OFFSETS, "a byte of sequence", |plan| plan.sequence.push(0)),
-        (BAD_OFFSETS, "a first offset", |plan| plan.s[0] += 1),
-        (BAD_OFFSETS, "a first header offset", |plan| plan.headers[0] += 1),
-        (WRONG_TOTALS, "a count", |plan| plan.count = 1),
-        (WRONG_TOTALS, "a longest", |plan| plan.longest = 1),
-    ];
-    let mut cases = Vec::new();
-    for (aim, note, change) in changes {
-        let mut plan = volume(kind, 0, rng);
-        change(&mut plan);
-        cases.push(Case::aimed(call(&plan, byte, rng), aim, format!("no sequences, but {note}")));
-    }
-    if kind == 1 {
-        let mut plan = volume(kind, 0, rng);
-        plan.sequence = vec![1];
-        cases.push(Case::aimed(call(&plan, byte, rng), NO_SEPARATOR, "no sequences and no NUL"));
     }
     cases
 }
@@ -208,10 +91,10 @@ fn short_indexes(byte: u8, rng: &mut Rng) -> Vec<Case> {
     let mut cases = Vec::new();
     for kind in [0, 1] {
         let plan = volume(kind, 1, rng);
-        let whole = plan.index(rng).len();
+        let whole = plan.index().len();
         for length in 0..=whole {
             let mut call = call(&plan, byte, rng);
-            call.arguments[0] = Argument::Range(plan.index(rng)[..length].to_vec());
+            call.arguments[0] = Argument::Range(plan.index()[..length].to_vec());
             let aim = if length == whole { 0 } else { ENDS_TOO_EARLY };
             cases.push(Case::aimed(call, aim, format!("an index of {length} of {whole} bytes")));
         }
@@ -252,8 +135,8 @@ pub fn random(byte: u8, rng: &mut Rng) -> Case {
         }
         4..=6 => {
             let plan = to_damage(kind, rng);
-            let Damaged { plan, note, .. } = by_chance(&faults(byte, kind), rng, plan);
-            Case::free(call(&plan, byte, rng), note)
+            let Damaged { plan, number, note } = by_chance(&rules(byte, kind), rng, plan);
+            Case::aimed(call(&plan, byte, rng), number, note)
         }
         _ => {
             let n = rng.below(4);

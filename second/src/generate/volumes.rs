@@ -18,6 +18,9 @@ pub const HEADER_OFFSETS: usize = 9;
 pub const SEQUENCE_OFFSETS: usize = 10;
 pub const AMBIGUITY_OFFSETS: usize = 11;
 
+/// The two types, and what their rules are called.
+pub const KINDS: [(i128, &str); 2] = [(0, "DNA"), (1, "protein")];
+
 /// A volume, and what the calls on it need besides: a sequence's number, the output's room, the results' length.
 #[derive(Clone, Debug)]
 pub struct Plan {
@@ -34,7 +37,8 @@ pub struct Plan {
     pub s: Vec<i128>,
     pub a: Vec<i128>,
     pub behind: Vec<u8>,
-    pub cut: Option<usize>,
+    /// The index ends inside this field, behind so many of its bytes.
+    pub cut: Option<(usize, usize)>,
     pub sequence: Vec<u8>,
     pub header: Vec<u8>,
     pub lengths: Vec<usize>,
@@ -101,6 +105,36 @@ impl Plan {
         self.longest = self.lengths.iter().copied().max().unwrap_or(0) as i128;
     }
 
+    /// What stands in the sequence file, sequence by sequence. Only for a volume whose offsets are right.
+    pub fn stored(&self) -> Vec<Stored> {
+        let part = |from: i128, to: i128| self.sequence[from as usize..to as usize].to_vec();
+        (0..self.lengths.len())
+            .map(|i| Stored {
+                residues: self.lengths[i],
+                bytes: part(self.s[i], self.a[i]),
+                range: part(self.a[i], self.s[i + 1]),
+            })
+            .collect()
+    }
+
+    /// Puts another sequence in the place of one, and lays the file out anew.
+    pub fn replace(&mut self, i: usize, change: impl Fn(&mut Stored)) {
+        let mut stored = self.stored();
+        change(&mut stored[i]);
+        self.lay_out(&stored);
+    }
+
+    /// Another byte at a place of the sequence file.
+    pub fn put(&mut self, place: i128, byte: u8) {
+        self.sequence[place as usize] = byte;
+    }
+
+    /// A title and a timestamp of these lengths.
+    pub fn set_texts(&mut self, title: usize, timestamp: usize) {
+        (self.title, self.title_length) = (vec![b't'; title], title as i128);
+        (self.timestamp, self.timestamp_length) = (vec![b'd'; timestamp], timestamp as i128);
+    }
+
     fn lay_out_headers(&mut self, records: &[Vec<u8>]) {
         for record in records {
             self.headers.push(self.header.len() as i128);
@@ -110,20 +144,22 @@ impl Plan {
     }
 
     /// The index file, cut inside a field where the plan says so.
-    pub fn index(&self, rng: &mut Rng) -> Vec<u8> {
+    pub fn index(&self) -> Vec<u8> {
         let mut bytes = Vec::new();
         for (k, field) in self.fields().into_iter().enumerate() {
-            if self.cut == Some(k) && !field.is_empty() {
-                bytes.extend(&field[..rng.below(field.len())]);
-                return bytes;
+            match self.cut {
+                Some((at, kept)) if at == k => {
+                    bytes.extend(&field[..kept]);
+                    return bytes;
+                }
+                _ => bytes.extend(field),
             }
-            bytes.extend(field);
         }
         bytes
     }
 
     /// The fields in order, and last what stands behind the tables.
-    fn fields(&self) -> Vec<Vec<u8>> {
+    pub fn fields(&self) -> Vec<Vec<u8>> {
         let offsets = |table: &[i128]| table.iter().flat_map(|offset| big_bytes(*offset, 4)).collect();
         vec![
             big_bytes(self.version, 4),

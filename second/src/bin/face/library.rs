@@ -23,7 +23,6 @@ extern "C" {
         results_len: usize,
     ) -> u32;
 
-    #[cfg(feature = "face-volume")]
     fn gull_check_volume(
         index: *const u8,
         index_len: usize,
@@ -70,7 +69,6 @@ pub fn unpack(alphabet: u32, packets: &[u8], codes: &mut [u8], results: &mut [u8
 }
 
 /// The volume check, with the same promises about its ranges.
-#[cfg(feature = "face-volume")]
 pub fn check_volume(index: &[u8], sequence: &[u8], header: &[u8], results: &mut [u8]) -> u32 {
     unsafe {
         gull_check_volume(

@@ -10,7 +10,6 @@ pub fn library_line(call: &Call, shift: usize) -> String {
     match call.byte {
         CONSOLE_PACK => pack_line(call, shift),
         CONSOLE_UNPACK => unpack_line(call, shift),
-        #[cfg(feature = "face-volume")]
         CONSOLE_VOLUME_CHECK => volume_line(call, shift),
         other => panic!("the C face has no call {other}"),
     }
@@ -39,7 +38,6 @@ fn unpack_line(call: &Call, shift: usize) -> String {
     line(number, &[&packets], &[&codes, &results])
 }
 
-#[cfg(feature = "face-volume")]
 fn volume_line(call: &Call, shift: usize) -> String {
     let files = [0, 1, 2].map(|k| Lent::new(call.range(k), shift + k));
     let mut results = Lent::new(&call.output(3), shift + 5);

@@ -5,37 +5,63 @@ mod large;
 mod lent;
 mod library;
 mod lines;
+mod timing;
 
 use second::call::*;
-use second::comparison::{report, Outcome};
-use second::generate::{cases, samples};
+use second::generate::{cases, large::asked, samples};
 use second::line::line_of;
 use second::options::{options, Options};
+use second::outcome::Outcome;
+use second::table;
 use std::process::ExitCode;
 
-/// The calls of the C face that this program is built with.
-fn calls() -> Vec<u8> {
-    let mut calls = vec![CONSOLE_PACK, CONSOLE_UNPACK];
-    if cfg!(feature = "face-volume") {
-        calls.insert(0, CONSOLE_VOLUME_CHECK);
-    }
-    calls
+/// The calls whose 22 is shown in one way.
+fn calls(large: Large) -> impl Iterator<Item = u8> {
+    SIGNATURES.iter().filter(move |signature| signature.large == large).map(|signature| signature.byte)
 }
 
 /// All cases of one call, and its large ranges.
 fn outcome(byte: u8, options: &Options, samples: &samples::Samples, large: &[u8]) -> Result<Outcome, String> {
     let mut outcome = Outcome::default();
-    for (shift, case) in cases(byte, options.seed, options.count, samples).iter().enumerate() {
-        outcome.count(case, &line_of(&case.call), lines::library_line(&case.call, shift));
+    for (shift, case) in cases(byte, options.seed, options.count, samples).enumerate() {
+        outcome.count(&case, &line_of(&case.call), lines::library_line(&case.call, shift));
     }
     match byte {
         CONSOLE_PACK => large::pack(&mut outcome, large)?,
-        CONSOLE_UNPACK => large::unpack(&mut outcome, large),
-        #[cfg(feature = "face-volume")]
+        CONSOLE_UNPACK => large::unpack(&mut outcome, large)?,
         CONSOLE_VOLUME_CHECK => large::check_volume(&mut outcome, large),
-        _ => {}
+        other => return Err(format!("the C face has no call {other}")),
     }
     Ok(outcome)
+}
+
+/// The large ranges of a call that only the timing library exports.
+fn timed(byte: u8, large: &[u8]) -> Result<Outcome, String> {
+    let mut outcome = Outcome::default();
+    match byte {
+        SET_CHECK => timing::check_set_large(&mut outcome, large),
+        #[cfg(feature = "timing-decode")]
+        DECODE => timing::decode_large(&mut outcome, large),
+        other => return Err(format!("the timing library has no call {other}")),
+    }
+    Ok(outcome)
+}
+
+/// Tells what was shown of 22; gives how much is missing.
+fn tell_22(byte: u8, outcome: &Outcome) -> usize {
+    let signature = signature(byte).expect("a call");
+    let missing: Vec<_> = asked(byte).into_iter().filter(|shows| !outcome.shown.contains(shows)).collect();
+    for shows in &missing {
+        println!("NOT SHOWN: call {byte} ({}), {shows}", signature.name);
+    }
+    let count = asked(byte).len();
+    println!(
+        "22 of call {byte} ({}), {}: {} of {count} shown: each input at the limit, past it, and past it with the number asked next",
+        signature.name,
+        signature.large.words(),
+        count - missing.len(),
+    );
+    missing.len()
 }
 
 fn run() -> Result<usize, String> {
@@ -43,11 +69,24 @@ fn run() -> Result<usize, String> {
     let samples = samples::load(&options.samples)?;
     let large = large::too_large()?;
     let mut wrong = 0;
-    for byte in calls() {
-        wrong += report(byte, &outcome(byte, &options, &samples, large)?, None);
+    let mut outcomes = Vec::new();
+    for byte in calls(Large::CFunction) {
+        let outcome = outcome(byte, &options, &samples, large)?;
+        wrong += outcome.tell(byte, true);
+        outcomes.push((byte, outcome));
+    }
+    println!("{}", table::numbers(&outcomes, true));
+    for byte in calls(Large::Timing) {
+        let outcome = timed(byte, large)?;
+        outcome.tell_differences();
+        wrong += outcome.differences.len();
+        outcomes.push((byte, outcome));
+    }
+    for (byte, outcome) in &outcomes {
+        wrong += tell_22(*byte, outcome);
     }
     if wrong == 0 {
-        println!("face: {} calls agree", calls().len());
+        println!("face: {} calls agree", outcomes.len());
     } else {
         println!("face: {wrong} differences");
     }

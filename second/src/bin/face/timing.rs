@@ -1,0 +1,92 @@
+//! Number 22 of calls that the C face lacks and the timing library exports.
+
+use crate::large::files;
+use second::call::SET_CHECK;
+use second::dsqdata::check_set;
+use second::outcome::Outcome;
+
+#[link(name = "timing", kind = "static")]
+extern "C" {
+    fn gull_time_check_set(
+        index: *const u8,
+        index_len: usize,
+        metadata: *const u8,
+        metadata_len: usize,
+        sequence: *const u8,
+        sequence_len: usize,
+        results: *mut u8,
+        results_len: usize,
+    ) -> u32;
+
+    #[cfg(feature = "timing-decode")]
+    fn gull_time_decode(
+        index: *const u8,
+        index_len: usize,
+        sequence: *const u8,
+        sequence_len: usize,
+        number: u64,
+        output: *mut u8,
+        output_len: usize,
+        results: *mut u8,
+        results_len: usize,
+    ) -> u32;
+}
+
+/// A number, and whether the results are as they were lent: every case here is a refusal.
+fn line(number: u32, results: &[u8]) -> String {
+    let touched = if results.iter().all(|byte| *byte == 8) { "" } else { " and the results were changed" };
+    format!("{number}{touched}")
+}
+
+/// Each file of a set. Zeros have the wrong magic.
+pub fn check_set_large(outcome: &mut Outcome, large: &[u8]) {
+    let magic_and_tag: &[u8] = &[0xb1, 0xd1, 0xd3, 0xc4, 0, 0, 0, 0];
+    let mut index = magic_and_tag.to_vec();
+    index.extend([3, 0, 0, 0]);
+    index.resize(52, 0);
+    for (files, case) in files(SET_CHECK, &[&index, magic_and_tag, magic_and_tag], &[14, 14, 14], large) {
+        let expected = check_set(files[0], files[1], files[2]).err().unwrap_or(0);
+        let mut results = [8u8; 80];
+        let [a, b, c] = [files[0], files[1], files[2]];
+        let found = unsafe {
+            gull_time_check_set(
+                a.as_ptr(),
+                a.len(),
+                b.as_ptr(),
+                b.len(),
+                c.as_ptr(),
+                c.len(),
+                results.as_mut_ptr(),
+                results.len(),
+            )
+        };
+        outcome.count(&case, &line(expected, &[]), line(found, &results));
+    }
+}
+
+/// Each file of a volume. An index of zeros has version 0; a volume without sequences has none of the number 0.
+#[cfg(feature = "timing-decode")]
+pub fn decode_large(outcome: &mut Outcome, large: &[u8]) {
+    use crate::large::NO_SEQUENCES;
+    use second::call::DECODE;
+    use second::sequence::decode;
+    for (files, case) in files(DECODE, &NO_SEQUENCES[..2], &[2, 10], large) {
+        let expected = decode(files[0], files[1], 0, &mut []).err().unwrap_or(0);
+        let (mut output, mut results) = ([8u8; 4], [8u8; 8]);
+        let [a, b] = [files[0], files[1]];
+        let found = unsafe {
+            gull_time_decode(
+                a.as_ptr(),
+                a.len(),
+                b.as_ptr(),
+                b.len(),
+                0,
+                output.as_mut_ptr(),
+                output.len(),
+                results.as_mut_ptr(),
+                results.len(),
+            )
+        };
+        outcome.count(&case, &line(expected, &[]), line(found, &[&output[..], &results].concat()));
+    }
+}
