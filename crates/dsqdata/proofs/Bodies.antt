@@ -13,27 +13,16 @@ use Rattle.packets.specs.Runs.{wellFormed, inner, final, residues, unpacked}
 use Rattle.packets.specs.Steps.{runStep, runSteps, ended}
 use Rattle.packets.specs.declared.RunState.{RunState}
 use Rattle.packets.specs.declared.RunState.the-variants.{Empty, Inside, Ended, Broken}
-use Rattle.packets.proofs.Steps.{steps-well}
+use Rattle.packets.proofs.Steps.{steps-well, over}
 use Rattle.packets.proofs.Round.{unpacked-cons, unpacked-nil}
 use Rattle.dsqdata.specs.Header.{packetsIn, packetAt, bodyOf}
 
 -- ---- what follows a run's end breaks it
 
-broken-step : (b c : Bool) → cond b Broken (cond c Broken Broken) ≡ Broken
-broken-step true c = refl
-broken-step false true = refl
-broken-step false false = refl
-
-broken-stays : (a : ℕ) (ps : List ℕ) → runSteps a Broken ps ≡ Broken
-unfolding runStep
-broken-stays a [] = refl
-broken-stays a (p ∷ ps) = ap (λ (x : RunState). runSteps a x ps) (broken-step (inner a p) (final a p)) ∙ broken-stays a ps
-
 ended-over : (a p : ℕ) (ps : List ℕ) (st : RunState) → ended st ≡ true → ended (runSteps a st (p ∷ ps)) ≡ false
-unfolding runStep
 ended-over a p ps Empty h = never h
 ended-over a p ps Inside h = never h
-ended-over a p ps Ended h = ap (λ (x : RunState). ended (runSteps a x ps)) (broken-step (inner a p) (final a p)) ∙ ap ended (broken-stays a ps)
+ended-over a p ps Ended h = over a p ps
 ended-over a p ps Broken h = never h
 
 -- ---- the body of a file

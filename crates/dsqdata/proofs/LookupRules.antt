@@ -14,7 +14,7 @@ use borrow.Author.Tests.{le-leb, leb-true, lt-ltb, ltb-true}
 use Rattle.laws.specs.Rules.{ask, AllHold}
 use Rattle.laws.proofs.Rules.{verdict-passes, hold-append, hold-first, hold-second}
 use Rattle.laws.proofs.Tests.{true-T, T-true}
-use Rattle.laws.proofs.Verdicts.{verdict-is}
+use Rattle.laws.proofs.Passing.{passes-with}
 use Rattle.answers.specs.declared.Refusal.the-variants.{NoSuchSequence}
 use Rattle.packets.specs.declared.BytePos.{BytePos}
 use Rattle.packets.specs.declared.PacketPos.{PacketPos}
@@ -48,7 +48,7 @@ module _ (set : SetRecord) (i : List ℕ) (k : ℕ) where
   pub found-rules : (a : BytePos) (b : ℕ) (p : PacketPos) (c : ℕ) → lookupOf set i k ≡ Found a b p c → LookupRules set i k × (foundAt i k ≡ Found a b p c)
   unfolding lookupOf lookupRules countRules
   found-rules a b p c h =
-      let v = verdict-is Refused (foundAt i k) (Found a b p c) (lookupRules set i k) (λ r e. let z : _≡_ {A = ℕ} 0 1 = cc in omega arith) h in
+      let v = passes-with Refused (foundAt i k) (Found a b p c) (λ r e. let z : _≡_ {A = ℕ} 0 1 = cc in omega arith) (lookupRules set i k) h in
       let n = hold-first (countRules (set .count) i) (ask (ltb k (set .count)) NoSuchSequence ∷ (partRules i metadataTable k ++ partRules i packetTable k)) (v .0 .1) in
       let w = hold-second (countRules (set .count) i) (ask (ltb k (set .count)) NoSuchSequence ∷ (partRules i metadataTable k ++ partRules i packetTable k)) (v .0 .1) in (
         record {

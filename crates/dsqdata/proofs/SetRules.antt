@@ -13,7 +13,7 @@ use Rattle.laws.specs.Rules.{verdict, AllHold}
 use Rattle.laws.proofs.Places.{largest-same}
 use Rattle.laws.proofs.Rules.{verdict-passes, hold-append, hold-first, hold-second}
 use Rattle.laws.proofs.Tests.{never, both-pass}
-use Rattle.laws.proofs.Verdicts.{verdict-is}
+use Rattle.laws.proofs.Passing.{passes-with}
 use Rattle.answers.proofs.Numbers.{number-not-zero}
 use Rattle.residues.specs.Alphabets.{isAlphabet}
 use Rattle.packets.specs.Runs.{wellFormed}
@@ -206,7 +206,7 @@ module _ (i m s : List ℕ) where
   pub passed-all : (x : SetRecord) → setCheck i m s ≡ Passed x → AllHold (setRules i m s) × (recordOf i ≡ x)
   unfolding setCheck
   passed-all x h =
-      let v = verdict-is Refused (Passed (recordOf i)) (Passed x) (setRules i m s) (λ r e. let z : _≡_ {A = ℕ} 0 1 = cc in omega arith) h in
+      let v = passes-with Refused (Passed (recordOf i)) (Passed x) (λ r e. let z : _≡_ {A = ℕ} 0 1 = cc in omega arith) (setRules i m s) h in
       let e = v .1 in
       (v .0, (cc))
 

@@ -11,7 +11,8 @@ use native.Mathlib.Omega.{arith}
 use Rattle.laws.specs.Places.{sumTo, largestTo}
 use Rattle.laws.specs.Rules.{Rule, ask, verdict, AllHold}
 use Rattle.laws.proofs.Rules.{verdict-append, refused-any, hold-first, hold-second}
-use Rattle.laws.proofs.Verdicts.{verdict-is, refused-then}
+use Rattle.laws.proofs.Passing.{passes-with}
+use Rattle.laws.proofs.Verdicts.{refused-then}
 use Rattle.answers.specs.declared.Refusal.{Refusal}
 use Rattle.answers.specs.declared.Refusal.the-variants.{BadOffsets}
 use Rattle.answers.specs.declared.Checked.{Checked}
@@ -49,7 +50,7 @@ module _ (a : ℕ) (ps : List ℕ) (c : Run) (e : c ≡ runRead a ps) where
   pub run-passed : (n : ℕ) → c ≡ R.Residues n → AllHold (rulesOfRun a ps) × (n ≡ length (unpacked ps))
   unfolding runRead
   run-passed n p =
-      let v = verdict-is R.Refused (R.Residues (length (unpacked ps))) (R.Residues n) (rulesOfRun a ps) (λ r q. clash (cc)) (sym e ∙ p) in
+      let v = passes-with R.Refused (R.Residues (length (unpacked ps))) (R.Residues n) (λ r q. clash (cc)) (rulesOfRun a ps) (sym e ∙ p) in
       let t = v .1 in
       (v .0, (cc))
 
@@ -65,8 +66,8 @@ module _ (i s : List ℕ) (a n : ℕ) (c : Runs) (e : c ≡ runsTo i s a n) wher
       → AllHold (runRulesTo i s a n) × (x ≡ sumTo (residuesAt i s) n) × (y ≡ largestTo (residuesAt i s) n)
   unfolding runsTo
   runs-totals x y p =
-      let v = verdict-is U.Refused (U.Totals (sumTo (residuesAt i s) n) (largestTo (residuesAt i s) n)) (U.Totals x y) (runRulesTo i s a n)
-      (λ r q. clash (cc)) (sym e ∙ p) in
+      let v = passes-with U.Refused (U.Totals (sumTo (residuesAt i s) n) (largestTo (residuesAt i s) n)) (U.Totals x y) (λ r q. clash (cc))
+      (runRulesTo i s a n) (sym e ∙ p) in
       let t = v .1 in
       (v .0, (cc), (cc))
 
@@ -84,8 +85,8 @@ module _ (i m : List ℕ) (n : ℕ) (c : Records) (e : c ≡ recordsTo i m n) wh
       → AllHold (rulesTo (rulesOfRecord i m) n) × (x ≡ largestTo (nameAt i m) n) × (y ≡ largestTo (accessionAt i m) n) × (z ≡ largestTo (descriptionAt i m) n)
   unfolding recordsTo
   records-longest x y z p =
-      let v = verdict-is M.Refused (M.Longest (largestTo (nameAt i m) n) (largestTo (accessionAt i m) n) (largestTo (descriptionAt i m) n)) (M.Longest x y z)
-      (rulesTo (rulesOfRecord i m) n) (λ r q. clash (cc)) (sym e ∙ p) in
+      let v = passes-with M.Refused (M.Longest (largestTo (nameAt i m) n) (largestTo (accessionAt i m) n) (largestTo (descriptionAt i m) n)) (M.Longest x y z)
+      (λ r q. clash (cc)) (rulesTo (rulesOfRecord i m) n) (sym e ∙ p) in
       let t = v .1 in
       (v .0, (cc), (cc), (cc))
 
@@ -118,7 +119,7 @@ module _ (i : List ℕ) (t k : ℕ) (c : Part) (e : c ≡ partOf i t k) where
   pub part-found : (x y : ℕ) → c ≡ P.At x y → AllHold (partRules i t k) × (x ≡ startAt i t k) × (y ≡ lengthAt i t k)
   unfolding partOf
   part-found x y p =
-      let v = verdict-is P.Refused (P.At (startAt i t k) (lengthAt i t k)) (P.At x y) (partRules i t k) (λ r q. clash (cc)) (sym e ∙ p) in
+      let v = passes-with P.Refused (P.At (startAt i t k) (lengthAt i t k)) (P.At x y) (λ r q. clash (cc)) (partRules i t k) (sym e ∙ p) in
       let t = v .1 in
       (v .0, (cc), (cc))
 

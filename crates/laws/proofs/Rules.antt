@@ -3,6 +3,7 @@ use mathlib.Core.Path.{_≡_, refl, _∙_}
 use mathlib.Core.Bool.{Bool, true, false, cond}
 use mathlib.Core.List.{List, [], _∷_, _++_}
 use Rattle.laws.specs.Rules.{Rule, ask, verdict, AllHold}
+use Rattle.laws.proofs.Passing.{passes-with}
 
 module _ {R A : Type 0} (refused : R → A) where
   -- Where every rule holds the check passes.
@@ -12,13 +13,7 @@ module _ {R A : Type 0} (refused : R → A) where
 
   -- Where the check answers what is no refusal, every rule holds.
   pub not-refused : (passed x : A) (rs : List (Rule R)) → ((r : R) → refused r ≡ x → ⊥) → verdict refused passed rs ≡ x → AllHold rs
-  not-refused passed x [] n e = tt
-  not-refused passed x (r ∷ rs) n e = go (r .holds) refl e (not-refused passed x rs n)
-    where
-      go : (b : Bool) → r .holds ≡ b → cond b (verdict refused passed rs) (refused (r .refusal)) ≡ x
-          → (verdict refused passed rs ≡ x → AllHold rs) → (r .holds ≡ true) × AllHold rs
-      go true h f k = (h, k f)
-      go false h f k = absurd (n (r .refusal) f)
+  not-refused passed x rs n e = passes-with refused passed x n rs e .0
 
   -- Where the check passes every rule holds.
   pub passes-all : (passed : A) (rs : List (Rule R)) → ((r : R) → refused r ≡ passed → ⊥) → verdict refused passed rs ≡ passed → AllHold rs

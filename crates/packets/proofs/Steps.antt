@@ -41,24 +41,20 @@ inner-final a p e = bool-cases (final a p) (λ f. never (sym (inner-bit a p e) �
 
 -- ---- all packets
 
+broken-step : (b c : Bool) → cond b Broken (cond c Broken Broken) ≡ Broken
+broken-step true c = refl
+broken-step false true = refl
+broken-step false false = refl
+
 broken : (a : ℕ) (ps : List ℕ) → runSteps a Broken ps ≡ Broken
 unfolding runStep
 broken a [] = refl
-broken a (p ∷ ps) = ap (λ (s : RunState). runSteps a s ps) (step (inner a p) (final a p)) ∙ broken a ps
-  where
-    step : (b c : Bool) → cond b Broken (cond c Broken Broken) ≡ Broken
-    step true c = refl
-    step false true = refl
-    step false false = refl
+broken a (p ∷ ps) = ap (λ (s : RunState). runSteps a s ps) (broken-step (inner a p) (final a p)) ∙ broken a ps
 
-over : (a p : ℕ) (ps : List ℕ) → ended (runSteps a Ended (p ∷ ps)) ≡ false
+-- what follows a run's end breaks it
+pub over : (a p : ℕ) (ps : List ℕ) → ended (runSteps a Ended (p ∷ ps)) ≡ false
 unfolding runStep
-over a p ps = ap (λ (s : RunState). ended (runSteps a s ps)) (step (inner a p) (final a p)) ∙ ap ended (broken a ps)
-  where
-    step : (b c : Bool) → cond b Broken (cond c Broken Broken) ≡ Broken
-    step true c = refl
-    step false true = refl
-    step false false = refl
+over a p ps = ap (λ (s : RunState). ended (runSteps a s ps)) (broken-step (inner a p) (final a p)) ∙ ap ended (broken a ps)
 
 -- the state where the packets before were none, or some that may stand before the last
 abbrev stateOf : Bool → RunState
