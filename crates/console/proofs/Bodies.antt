@@ -9,13 +9,12 @@ use lib.Seq.{take-at, drop-append-add, drop-drop}
 use Rattle.laws.specs.Writing.{writtenAt}
 use Rattle.laws.specs.Rules.{AllHold}
 use Rattle.laws.proofs.Rules.{verdict-passes, not-refused, hold-first}
-use Rattle.answers.specs.declared.Refusal.{Refusal}
 use Rattle.packets.specs.Positions.{byteOf}
 use Rattle.packets.specs.Packing.{run}
 use Rattle.packets.specs.Bytes.{bytesOf}
 use Rattle.packets.proofs.Bytes.{length-bytes, bytes-append, bytes-none}
 use Rattle.runs.specs.Answers.{packRules, ifPacked}
-use Rattle.runs.specs.Bodies.{Item, body, taken, ifTaken}
+use Rattle.runs.specs.Bodies.{body, taken, ifTaken}
 use Rattle.runs.specs.declared.PackAnswer.{PackAnswer}
 use Rattle.runs.specs.declared.PackAnswer.the-variants.{Packed, Refused}
 use Rattle.runs.proofs.Answers.{may-pack}

@@ -1,6 +1,6 @@
 -- The packets of a sequence file, as a loop reads them. Assumes nothing.
-use mathlib.Core.Path.{_≡_, refl, sym, ap, _∙_}
-use mathlib.Core.Bool.{Bool, true, false, cond}
+use mathlib.Core.Path.{_≡_, sym, ap, _∙_}
+use mathlib.Core.Bool.{true, false}
 use mathlib.Core.List.{List, [], _∷_}
 use Prim.Native.Nat.{ℕ, _+_, _≤_, _<_}
 use native.Mathlib.Omega.{arith}
@@ -9,7 +9,7 @@ use lib.ListN.{length, getD, take, length-append, length-take, drop-of-length-le
 use lib.Seq.{slice, slice-cons}
 use Rattle.laws.proofs.Places.{length-listTo, listTo-at}
 use Rattle.laws.proofs.Tests.{never}
-use Rattle.packets.specs.Runs.{wellFormed, inner, final, residues, unpacked}
+use Rattle.packets.specs.Runs.{wellFormed, residues, unpacked}
 use Rattle.packets.specs.Steps.{runStep, runSteps, ended}
 use Rattle.packets.specs.declared.RunState.{RunState}
 use Rattle.packets.specs.declared.RunState.the-variants.{Empty, Inside, Ended, Broken}

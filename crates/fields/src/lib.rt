@@ -2,7 +2,6 @@
 // as little-endian bytes. Every public function is total: a byte past the end reads as 0, and a number that does not fit is not written.
 ghost use mathlib.Core.Path.{_≡_};
 ghost use Prim.Native.Nat.{_+_, _≤_, _<_};
-ghost use lib.Dec.{leb};
 ghost use lib.ListN.{length, getD};
 ghost use Rattle.fields.specs.Number.{big, little, number, bytesAt, unsignedAt, signedAt};
 ghost use Rattle.laws.specs.Writing.{writtenAt};

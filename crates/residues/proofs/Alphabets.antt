@@ -1,12 +1,9 @@
 -- Laws of the alphabets and of valid codes. Assumes nothing.
 use mathlib.Core.Path.{_≡_, refl}
-use mathlib.Core.Bool.{Bool, true, false, cond}
+use mathlib.Core.Bool.{true}
 use mathlib.Core.List.{List}
 use Prim.Native.Nat.{ℕ, _<_, _≤_}
-use native.Mathlib.Omega.{arith}
-use lib.Dec.{eqb, lit≤}
-use lib.ListN.{getD}
-use Rattle.laws.specs.Places.{every}
+use lib.Dec.{lit≤}
 use Rattle.laws.proofs.Places.{every-at}
 use Rattle.laws.specs.Digits.{allBelow}
 use Rattle.laws.proofs.Tests.{bool-cases}

@@ -1,7 +1,6 @@
 // Easel's alphabets and residue codes, and the codes of a volume's ambiguity and protein values.
 ghost use mathlib.Core.Path.{_≡_};
-ghost use lib.ListN.{length};
-ghost use Prim.Native.Nat.{_≤_, _<_};
+ghost use Prim.Native.Nat.{_<_};
 ghost use Rattle.residues.specs.Alphabets.{isAlphabet, isAmino, codeLimit};
 ghost use Rattle.residues.specs.Tables.{ambiguityCode, proteinCode};
 

@@ -18,7 +18,7 @@ use Rattle.answers.proofs.Checks.{all-hold, refused-first, passed-first}
 use Rattle.volume.specs.declared.Index.{Index}
 use Rattle.volume.specs.declared.IndexAnswer.the-variants as X
 use Rattle.volume.specs.Index.{volumeType, isProtein, sequences, sequenceTable, ambiguityTable, indexRules, indexOf, indexAnswer}
-use Rattle.volume.specs.Tables.{sequenceLength, sequenceStart, proteinLength, proteinEnd, twoBitLength, dnaLength, dnaEnd}
+use Rattle.volume.specs.Tables.{sequenceLength, sequenceStart, proteinLength, twoBitLength, dnaLength, dnaEnd}
 use Rattle.volume.proofs.Lengths.{protein-length, dna-length}
 use Rattle.volume.proofs.Reading.{index-read, index-first, index-refused}
 use Rattle.sequence.specs.declared.DecodeAnswer.{DecodeAnswer}

@@ -1,11 +1,10 @@
 -- Two-bit residues as the loops read and store them. Assumes nothing.
-use mathlib.Core.Path.{_≡_, refl, sym, ap, _∙_}
+use mathlib.Core.Path.{_≡_, refl, ap, _∙_}
 use mathlib.Core.List.{List, [], _∷_}
 use Prim.Native.Nat.{ℕ, _+_, _*_, _/_, _%_, _-_, _≤_, _<_}
 use native.Mathlib.Omega.{arith}
 use lib.ListN.{length, getD, set}
 use Rattle.laws.specs.Digits.{digits}
-use Rattle.laws.specs.Places.{listTo}
 use Rattle.laws.specs.Writing.{writtenAt}
 use Rattle.laws.proofs.Storing.{store-front}
 use Rattle.sequence.specs.Bases.{basesOf, baseAt, twoBitResidues}

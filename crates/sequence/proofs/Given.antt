@@ -7,8 +7,7 @@ use native.Mathlib.Omega.{arith}
 use borrow.Author.Tests.{leb-true}
 use lib.ListN.{length, getD, drop, List·getD-append}
 use lib.Seq.{getD-append-add, getD-drop}
-use Rattle.laws.specs.Places.{listTo}
-use Rattle.laws.specs.Rules.{Rule, verdict, AllHold}
+use Rattle.laws.specs.Rules.{AllHold}
 use Rattle.laws.specs.Writing.{writtenAt}
 use Rattle.laws.proofs.Places.{length-listTo, listTo-at}
 use Rattle.laws.proofs.Passing.{passes-with}
@@ -23,7 +22,7 @@ use Rattle.sequence.specs.declared.DecodeAnswer.{DecodeAnswer}
 use Rattle.sequence.specs.declared.DecodeAnswer.the-variants.{Decoded, Refused}
 use Rattle.sequence.specs.Bases.{baseAt}
 use Rattle.sequence.specs.Corrections.{entryWidth, entryCount, correctedAt, tableRules}
-use Rattle.sequence.specs.Sequence.{byteFrom, rangeEnd, numberRules, dnaEntryRules, dnaRules, sequenceRules, roomRules, ownRules, decodeSizeRules, decodeRules, decodeAnswer, decodeNumber, decodeValues, proteinCodes, dnaCodes, residuesOf, writtenBy, decodeOutput}
+use Rattle.sequence.specs.Sequence.{byteFrom, rangeEnd, numberRules, dnaEntryRules, dnaRules, sequenceRules, roomRules, ownRules, decodeSizeRules, decodeRules, decodeAnswer, decodeNumber, decodeValues, proteinCodes, dnaCodes, residuesOf, decodeOutput}
 use Rattle.sequence.proofs.Answers.{residues-protein, residues-dna, output-by}
 use Rattle.sequence.proofs.Corrected.{length-residues, residue-at}
 

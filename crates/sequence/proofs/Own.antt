@@ -5,8 +5,8 @@ use mathlib.Core.List.{List}
 use Prim.Native.Nat.{ℕ, _+_, _*_, _-_, _≤_, _<_}
 use native.Mathlib.Omega.{arith}
 use borrow.Author.Tests.{lt-ltb, le-ltb, le-leb, lt-leb, leb-true, ltb-true, eq-eqb, ne-eqb}
-use lib.Dec.{ltb, leb, eqb}
-use lib.IntN.{ℤ, pos}
+use lib.Dec.{ltb, leb}
+use lib.IntN.{pos}
 use lib.ListN.{length, getD}
 use lib.Signed.{ltZ, leZ, nonNeg}
 use Rattle.laws.specs.Rules.{AllHold}
@@ -17,8 +17,7 @@ use Rattle.fields.specs.Number.{big, signedAt}
 use Rattle.answers.specs.Limits.{checkedBy}
 use Rattle.answers.specs.declared.Refusal.the-variants.{BadOffsets, BadSeparator}
 use Rattle.answers.specs.declared.Checked.the-variants.{Passed, Refused}
-use Rattle.volume.specs.Index.{sequenceTable, ambiguityTable}
-use Rattle.volume.specs.Tables.{offsetAt, sequenceOffset, ambiguityOffset, sequenceStart, proteinEnd, dnaEnd}
+use Rattle.volume.specs.Tables.{offsetAt, sequenceOffset, ambiguityOffset, sequenceStart, dnaEnd}
 use Rattle.sequence.specs.Sequence.{proteinEntryRules, dnaEntryRules, rangeEnd}
 
 -- an offset read at its place in a table

@@ -1,7 +1,7 @@
 -- A volume that passes the check: the entries of each of its sequences keep their own rules. Assumes nothing.
-use mathlib.Core.Path.{_≡_, refl, sym, ap, subst, _∙_}
-use mathlib.Core.Bool.{Bool, true, false, cond}
-use mathlib.Core.List.{List, []}
+use mathlib.Core.Path.{_≡_, sym, ap, subst, _∙_}
+use mathlib.Core.Bool.{true}
+use mathlib.Core.List.{List}
 use Prim.Native.Nat.{ℕ, zero, suc, _+_, _-_, _≤_, _<_}
 use native.Mathlib.Numerals.{add-one}
 use native.Mathlib.Omega.{arith}
@@ -16,7 +16,7 @@ use Rattle.laws.proofs.Places.{every-at}
 use Rattle.laws.proofs.Signed.{eq-test, at-least-zero}
 use Rattle.laws.proofs.Sizes.{lt-sizes, le-sizes, at-most-size, at-least-size, sized-natural}
 use Rattle.laws.proofs.Tests.{both-pass}
-use Rattle.volume.specs.Index.{isProtein, sequences, sequenceTable, ambiguityTable}
+use Rattle.volume.specs.Index.{sequences, sequenceTable, ambiguityTable}
 use Rattle.volume.specs.Tables.{above, between, sequenceOffset, ambiguityOffset, firstNucleotideOffset, sequenceStart, proteinEnd, proteinOffsetRules, proteinSeparatorRules, dnaOffsetRules}
 use Rattle.sequence.specs.Sequence.{proteinEntryRules, dnaEntryRules}
 

@@ -1,6 +1,5 @@
 // Residues out of bytes: two-bit residues, four to a byte, and protein residues, one to a byte.
 ghost use mathlib.Core.Path.{_≡_};
-ghost use mathlib.Core.Bool.{true};
 ghost use Prim.Native.Nat.{_+_, _*_, _/_, _≤_, _<_};
 ghost use lib.ListN.{length};
 ghost use Rattle.laws.specs.Places.{every, largestTo};

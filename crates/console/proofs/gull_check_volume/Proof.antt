@@ -1,5 +1,5 @@
 -- `console::gull_check_volume`: the check's answer, and after it the room of the results. Assumes nothing.
-use mathlib.Core.Path.{refl, sym, _∙_}
+use mathlib.Core.Path.{sym, _∙_}
 use denote.Ref.{now}
 use borrow.Author.Tests.{le-leb, lt-leb}
 use Rattle.console.proofs.Volume.{volume-refused, volume-short, volume-passed}

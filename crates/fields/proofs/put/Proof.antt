@@ -1,7 +1,5 @@
 -- `fields::put`: by the definition's test. Assumes nothing.
 use mathlib.Core.Path.{sym, _∙_}
-use Prim.Native.Nat.{_+_, _<_, _≤_}
-use lib.ListN.{length}
 use native.Mathlib.Omega.{arith}
 use denote.Ref.{now}
 use Rattle.fields.proofs.Laws.{put-fits, put-not}

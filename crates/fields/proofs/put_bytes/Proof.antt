@@ -1,7 +1,7 @@
 -- `fields::put_bytes`: what is written so far, and what is left to write, are the number's bytes. Assumes nothing.
-use mathlib.Core.Path.{_≡_, refl, sym, ap, _∙_}
+use mathlib.Core.Path.{_≡_, refl, ap, _∙_}
 use mathlib.Core.List.{List}
-use Prim.Native.Nat.{ℕ, _≤_, _<_, _-_, _+_, _/_, _%_}
+use Prim.Native.Nat.{ℕ, _≤_, _-_, _+_, _/_, _%_}
 use native.Mathlib.Omega.{arith}
 use lib.ListN.{length, drop, set, length-set}
 use lib.Seq.{paste, paste-zero}

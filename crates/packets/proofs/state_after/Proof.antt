@@ -1,10 +1,6 @@
 -- `packets::state_after`: by the count. Assumes nothing.
-use mathlib.Core.Path.{_≡_, refl, sym, ap, _∙_}
-use Prim.Native.Nat.{ℕ, _≤_, _<_, _-_, _+_, _*_, _^_, _/_, _%_}
+use Prim.Native.Nat.{_-_}
 use native.Mathlib.Omega.{arith}
-use Prim.Native.Nat.{suc}
-use Rattle.packets.specs.declared.RunState.{RunState}
-use Rattle.packets.specs.Steps.{stateAfter}
 use Rattle.packets.proofs.Steps.{after-some}
 use borrow.Author.Needs.{needs}
 use Rattle.packets.proofs.state_after.Statement.{statement}

@@ -1,14 +1,12 @@
 -- `runs::is_run`: each packet before the last may stand there, and the last one decides. Assumes nothing.
 use mathlib.Core.Path.{_≡_, refl, sym, ap, _∙_}
-use Prim.Native.Nat.{ℕ, _≤_, _<_, _-_, _+_, _*_, _/_, _%_}
+use Prim.Native.Nat.{_≤_, _-_, _+_}
 use native.Mathlib.Omega.{arith}
 use borrow.Author.Tests.{not-true, not-false}
 use lib.ListN.{length, drop, getD}
 use denote.Ref.{now}
-use mathlib.Core.Bool.{Bool}
 use Rattle.packets.specs.declared.RunState.{RunState}
 use Rattle.packets.specs.declared.RunState.the-variants.{Empty}
-use Rattle.packets.specs.Runs.{inner}
 use Rattle.packets.specs.Steps.{runStep, stateAfter, runSteps, ended}
 use Rattle.packets.proofs.Steps.{inner-turn, last-turn}
 use Rattle.packets.proofs.Shapes.{none-not, inner-not}

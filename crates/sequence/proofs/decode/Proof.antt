@@ -1,7 +1,7 @@
 -- `sequence::decode`: sizes, then the index, then the sequence's own rules. Assumes nothing.
 use denote.Ref.{now}
 use lib.ListN.{length}
-use mathlib.Core.Path.{sym, ap, _∙_}
+use mathlib.Core.Path.{sym, _∙_}
 use Rattle.volume.proofs.Reading.{index-read}
 use Rattle.sequence.proofs.Answers.{decode-large, decode-unread, decode-read, sequence-fits, output-by}
 use borrow.Author.Needs.{needs}

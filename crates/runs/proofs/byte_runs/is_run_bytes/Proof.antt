@@ -1,11 +1,10 @@
 -- `runs::byte_runs::is_run_bytes`: each packet before the last may stand there, and the last one decides. Assumes nothing.
 use mathlib.Core.Path.{_≡_, refl, sym, ap, _∙_}
-use Prim.Native.Nat.{ℕ, _≤_, _<_, _-_, _+_, _*_, _/_, _%_}
+use Prim.Native.Nat.{ℕ, _≤_, _-_, _+_, _/_}
 use native.Mathlib.Omega.{arith}
 use borrow.Author.Tests.{not-true, not-false}
 use lib.ListN.{length, drop, getD}
 use denote.Ref.{now}
-use mathlib.Core.Bool.{Bool}
 use Rattle.packets.specs.declared.RunState.{RunState}
 use Rattle.packets.specs.declared.RunState.the-variants.{Empty}
 use Rattle.packets.specs.Runs.{inner}

@@ -1,9 +1,7 @@
 -- `runs::byte_runs::packet_at`: its four bytes, each at its place. Assumes nothing.
-use mathlib.Core.Path.{_≡_, refl, sym, ap, _∙_}
-use Prim.Native.Nat.{ℕ, _≤_, _<_, _-_, _+_, _*_, _/_, _%_}
+use Prim.Native.Nat.{_-_}
 use native.Mathlib.Omega.{arith}
 use denote.Ref.{now}
-use lib.ListN.{length}
 use Rattle.runs.proofs.Stores.{packet-sum}
 use borrow.Author.Needs.{needs}
 use Rattle.runs.proofs.byte_runs.packet_at.Statement.{statement}
