@@ -10,6 +10,8 @@ int main(void)
         bench_runs(size);
     for (size_t size = 40000; size <= 4000000; size *= 10)
         bench_volumes(size);
+    for (size_t size = 1000000; size <= 100000000; size *= 10)
+        bench_sequences(size);
     for (size_t size = 4000; size <= 400000; size *= 10)
         bench_sets(size);
     return 0;

@@ -7,6 +7,7 @@
 
 void bench_runs(size_t residues);
 void bench_volumes(size_t sequences);
+void bench_sequences(size_t residues);
 void bench_sets(size_t sequences);
 
 #endif

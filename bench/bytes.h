@@ -30,6 +30,11 @@ static inline void put32(uint8_t *p, uint32_t v)
     memcpy(p, &v, 4);
 }
 
+static inline void put_be(uint8_t *p, uint32_t v)
+{
+    put32(p, __builtin_bswap32(v));
+}
+
 static inline void put64(uint8_t *p, uint64_t v)
 {
     memcpy(p, &v, 8);

@@ -16,5 +16,7 @@ uint32_t c_check_volume(const uint8_t *index, size_t index_len, const uint8_t *s
                         const uint8_t *header, size_t header_len, uint8_t *results, size_t results_len);
 uint32_t c_check_set(const uint8_t *index, size_t index_len, const uint8_t *metadata, size_t metadata_len,
                      const uint8_t *sequence, size_t sequence_len, uint8_t *results, size_t results_len);
+uint32_t c_decode(const uint8_t *index, size_t index_len, const uint8_t *sequence, size_t sequence_len, uint64_t number,
+                  uint8_t *out, size_t out_len);
 
 #endif

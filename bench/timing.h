@@ -7,5 +7,7 @@
 
 uint32_t gull_time_check_set(const uint8_t *index, size_t index_len, const uint8_t *metadata, size_t metadata_len,
                              const uint8_t *sequence, size_t sequence_len, uint8_t *results, size_t results_len);
+uint32_t gull_time_decode(const uint8_t *index, size_t index_len, const uint8_t *sequence, size_t sequence_len, uint64_t number,
+                          uint8_t *out, size_t out_len);
 
 #endif

@@ -1,82 +1,9 @@
 /* The volume check in plain C, with every check of the library's call, in its order. */
 #include "bytes.h"
+#include "index.h"
 #include "reference.h"
 
 #define MOST_BYTES 2147483647u
-
-/* The fixed fields of an index, and where its tables stand. */
-struct fixed {
-    int32_t type, n, longest, title, stamp;
-    int64_t count;
-    const uint8_t *headers, *sequences, *ambiguities;
-};
-
-/* A length field at a place and the bytes that it counts: 1, 4, 1. */
-static uint32_t text_at(const uint8_t *index, size_t len, size_t at, int32_t *length)
-{
-    if (len - at < 4)
-        return 1;
-    *length = (int32_t)be32(index + at);
-    if (*length < 0)
-        return 4;
-    return len - at - 4 < (size_t)*length ? 1 : 0;
-}
-
-/* N, count and longest, from a place on. */
-static uint32_t counts_at(const uint8_t *index, size_t len, size_t at, struct fixed *f)
-{
-    if (len - at < 4)
-        return 1;
-    f->n = (int32_t)be32(index + at);
-    if (f->n < 0 || f->n > 134217728)
-        return 4;
-    if (len - at < 12)
-        return 1;
-    f->count = (int64_t)le64(index + at + 4);
-    if (f->count < 0)
-        return 4;
-    if (len - at < 16)
-        return 1;
-    f->longest = (int32_t)be32(index + at + 12);
-    return f->longest < 0 ? 4 : 0;
-}
-
-/* The index, 1 to 6. */
-static uint32_t read_fixed(const uint8_t *index, size_t len, struct fixed *f)
-{
-    uint32_t refused;
-    if (len < 4)
-        return 1;
-    if (be32(index) != 4)
-        return 2;
-    if (len < 8)
-        return 1;
-    f->type = (int32_t)be32(index + 4);
-    if (f->type != 0 && f->type != 1)
-        return 3;
-    if ((refused = text_at(index, len, 8, &f->title)) != 0)
-        return refused;
-    size_t at = 12 + (size_t)f->title;
-    if ((refused = text_at(index, len, at, &f->stamp)) != 0)
-        return refused;
-    at += 4 + (size_t)f->stamp;
-    if (at % 8 != 0)
-        return 5;
-    if ((refused = counts_at(index, len, at, f)) != 0)
-        return refused;
-    size_t table = 4 * ((size_t)f->n + 1), need = at + 16 + (f->type == 1 ? 2 : 3) * table;
-    if (len != need)
-        return len < need ? 1 : 6;
-    f->headers = index + at + 16;
-    f->sequences = f->headers + table;
-    f->ambiguities = f->sequences + table;
-    return 0;
-}
-
-static int64_t offset(const uint8_t *table, size_t k)
-{
-    return (int32_t)be32(table + 4 * k);
-}
 
 /* 7 for the header offsets and the sequence offsets. */
 static uint32_t check_offsets(const struct fixed *f, size_t sequence_len, size_t header_len)
@@ -137,7 +64,7 @@ uint32_t c_check_volume(const uint8_t *index, size_t index_len, const uint8_t *s
     (void)header;
     if (index_len > MOST_BYTES || sequence_len > MOST_BYTES || header_len > MOST_BYTES)
         return 22;
-    if ((refused = read_fixed(index, index_len, &f)) != 0 || (refused = check_offsets(&f, sequence_len, header_len)) != 0 ||
+    if ((refused = c_read_index(index, index_len, &f)) != 0 || (refused = check_offsets(&f, sequence_len, header_len)) != 0 ||
         (refused = check_content(&f, sequence)) != 0)
         return refused;
     if (results_len < 64)

@@ -5,6 +5,7 @@
 #include "../include/gullcordage.h"
 #include "bench.h"
 #include "bytes.h"
+#include "index.h"
 #include "measure.h"
 #include "reference.h"
 
@@ -15,24 +16,6 @@ struct volume {
     size_t index_len, sequence_len, header_len;
     check_call *check;
 };
-
-static void put_be(uint8_t *p, uint32_t v)
-{
-    put32(p, __builtin_bswap32(v));
-}
-
-/* The fixed fields of an index with an empty title and a timestamp of eight NULs; the place of its tables. */
-static uint8_t *put_fixed(uint8_t *index, uint32_t type, size_t n, uint64_t count, uint64_t longest)
-{
-    memset(index, 0, 40);
-    put_be(index, 4);
-    put_be(index + 4, type);
-    put_be(index + 12, 8);
-    put_be(index + 24, (uint32_t)n);
-    put64(index + 28, count);
-    put_be(index + 36, (uint32_t)longest);
-    return index + 40;
-}
 
 /* A volume of n sequences of up to `most` residues, without corrections. */
 static struct volume make_volume(uint32_t type, size_t n, size_t most)
@@ -70,7 +53,7 @@ static struct volume make_volume(uint32_t type, size_t n, size_t most)
     if (type == 0)
         put_be(ambiguities + 4 * n, (uint32_t)at);
     v.sequence_len = at;
-    put_fixed(v.index, type, n, count, longest);
+    put_index(v.index, type, n, count, longest);
     return v;
 }
 

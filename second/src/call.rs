@@ -62,9 +62,6 @@ impl Large {
     }
 }
 
-/// Decoding's 22 is shown once the timing library has the call.
-const DECODE_LARGE: Large = if cfg!(feature = "timing-decode") { Large::Timing } else { Large::Contract };
-
 /// The calls by byte: name, arguments in order, the numbers that document 01 lets the call give, and how 22 is shown.
 pub struct Signature {
     pub byte: u8,
@@ -89,7 +86,7 @@ pub const SIGNATURES: [Signature; 12] = [
         name: "decode",
         kinds: &[Range, Range, Number, Output],
         numbers: &[0, 1, 2, 3, 4, 5, 6, 7, 8, 10, 11, 12, 13, 22],
-        large: DECODE_LARGE,
+        large: Large::Timing,
     },
     Signature {
         byte: PACK,

@@ -15,6 +15,7 @@ const UNKNOWN: usize = 3000000;
 fn run_case(call: u8) -> usize {
     match call {
         1 => volumes::check_volume(),
+        2 => volumes::decode(),
         3 => packing::pack(),
         4 => packing::unpack(),
         5 => sets::check_set(),

@@ -2,7 +2,7 @@
 ghost use mathlib.Core.Path.{_≡_};
 ghost use Prim.Native.Nat.{_<_};
 ghost use Rattle.residues.specs.Alphabets.{isAlphabet, isAmino, codeLimit};
-ghost use Rattle.residues.specs.Tables.{ambiguityCode, proteinCode};
+ghost use Rattle.residues.specs.Tables.{ambiguityCode, proteinCodes};
 
 const AMBIGUITY_CODES: [u8; 16] = [4, 0, 1, 7, 2, 5, 9, 13, 3, 10, 6, 11, 8, 14, 12, 15];
 
@@ -74,12 +74,9 @@ pub fn ambiguity_code(v: u8) -> u8
     AMBIGUITY_CODES[v as usize]
 }
 
-// The code of a protein value; 0 for a number above 27.
-pub fn protein_code(v: u8) -> u8
-    ensures { λ r. ⌜ r ≡ proteinCode v ⌝ }
+// The codes of the protein values 0 to 27, by the value.
+pub fn protein_codes() -> [u8; 28]
+    ensures { λ r. ⌜ r ≡ proteinCodes ⌝ }
 {
-    if v > 27 {
-        return 0;
-    }
-    PROTEIN_CODES[v as usize]
+    PROTEIN_CODES
 }

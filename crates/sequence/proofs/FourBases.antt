@@ -3,6 +3,7 @@ use mathlib.Core.Path.{_≡_, refl, ap, _∙_}
 use mathlib.Core.List.{List, [], _∷_}
 use Prim.Native.Nat.{ℕ, _+_, _*_, _/_, _%_, _-_, _≤_, _<_}
 use native.Mathlib.Omega.{arith}
+use lib.Arith.{digits-mod}
 use lib.ListN.{length, getD, set}
 use Rattle.laws.specs.Digits.{digits}
 use Rattle.laws.specs.Writing.{writtenAt}
@@ -12,13 +13,31 @@ use Rattle.sequence.specs.Bases.{basesOf, baseAt, twoBitResidues}
 list₄ : {a b c d x y z w : ℕ} → a ≡ x → b ≡ y → c ≡ z → d ≡ w → _≡_ {A = List ℕ} (a ∷ b ∷ c ∷ d ∷ []) (x ∷ y ∷ z ∷ w ∷ [])
 list₄ e f g h = rw (e, f, g, h)
 
--- the four bases of a byte, by division
-pub four-bases : (byte : ℕ) → byte < 256 → byte / 64 ∷ byte / 16 % 4 ∷ byte / 4 % 4 ∷ byte % 4 ∷ [] ≡ basesOf byte
+-- the product has the half byte twice
+two-bases : (half : ℕ) → half < 16 → (half * 1025 / 4 % 4 ≡ half / 4) × (half * 1025 / 1024 % 4 ≡ half % 4)
+two-bases half h =
+    let a : half * 1025 / 4 ≡ half * 64 * 4 + half / 4 = omega arith in
+    let b : half * 1025 / 1024 ≡ half = omega arith in
+    (ap (λ (x : ℕ). x % 4) a ∙ digits-mod (half * 64) (omega arith), ap (λ (x : ℕ). x % 4) b)
+
+-- the two-bit digits of a byte are those of its halves
+half-digits : (byte : ℕ) → byte < 256 → (byte / 16 / 4 ≡ byte / 64 % 4) × (byte % 16 / 4 ≡ byte / 4 % 4) × (byte % 16 % 4 ≡ byte / 1 % 4)
+half-digits byte h =
+    let u : byte / 64 ≡ byte / 64 % 4 = omega arith in
+    let v : byte / 16 / 4 ≡ byte / 64 = omega arith in
+    (v ∙ u, omega arith, omega arith)
+
+-- the four bases of a byte
+pub four-bases : (byte : ℕ) → byte < 256 →
+    let high = byte / 16 * 1025 in
+    let low = byte % 16 * 1025 in
+    high / 4 % 4 ∷ high / 1024 % 4 ∷ low / 4 % 4 ∷ low / 1024 % 4 ∷ [] ≡ basesOf byte
 unfolding digits
 four-bases byte h =
-    let a : byte / 64 ≡ byte / 64 % 4 = omega arith in
-    let d : byte % 4 ≡ byte / 1 % 4 = omega arith in
-    list₄ a refl refl d
+    let (a, b) = two-bases (byte / 16) (omega arith) in
+    let (c, d) = two-bases (byte % 16) (omega arith) in
+    let (x, y, z) = half-digits byte h in
+    list₄ (a ∙ x) b (c ∙ y) (d ∙ z)
 
 -- residue k, by its byte m and its place j in that byte
 pub base-is : (sequence : List ℕ) (start k m j : ℕ) → k ≡ 4 * m + j → j < 4

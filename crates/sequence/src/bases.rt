@@ -1,17 +1,25 @@
 // Residues out of bytes: two-bit residues, four to a byte, and protein residues, one to a byte.
 ghost use mathlib.Core.Path.{_≡_};
 ghost use Prim.Native.Nat.{_+_, _*_, _/_, _≤_, _<_};
-ghost use lib.ListN.{length};
+ghost use lib.ListN.{length, getD};
 ghost use Rattle.laws.specs.Places.{every, largestTo};
 ghost use Rattle.laws.specs.Writing.{writtenAt};
 ghost use Rattle.sequence.specs.Bases.{basesOf, twoBitResidues};
 ghost use Rattle.sequence.specs.Sequence.{byteFrom, isProteinByte, proteinResidues};
 
-// The four bases of a byte.
+// The four bases of a byte, two of each half. The product has the half byte twice, from bit 0 and from bit 10 on; so written, the
+// loop over many bytes becomes vector code, which it does not where each base is shifted out of the byte.
 fn bases(byte: u8) -> [u8; 4]
     ensures { λ r. ⌜ r ≡ basesOf byte ⌝ }
 {
-    [byte / 64, byte / 16 % 4, byte / 4 % 4, byte % 4]
+    let high = (byte / 16) as u16 * 1025;
+    let low = (byte % 16) as u16 * 1025;
+    [
+        (high / 4 % 4) as u8,
+        (high / 1024 % 4) as u8,
+        (low / 4 % 4) as u8,
+        (low / 1024 % 4) as u8,
+    ]
 }
 
 // Writes the bases of whole bytes from a start on.
@@ -70,14 +78,22 @@ pub(crate) fn are_proteins(sequence: &[u8], start: usize, l: usize) -> bool
     largest_byte(sequence, start, l) <= 27
 }
 
+// The code of a value in a table of codes; 0 for a value past its end.
+fn code_of(codes: &[u8], value: u8) -> u8
+    ensures { λ r. ⌜ r ≡ getD (now (codes .entry)) value 0 ⌝ }
+{
+    fields::byte(codes, value as usize)
+}
+
 // Writes the residues of l protein bytes from a start on.
 pub(crate) fn write_proteins(sequence: &[u8], start: usize, l: usize, out: &mut [u8])
     requires { ⌜ (start + l ≤ length (now sequence)) × (l ≤ length (now out)) ⌝ }
     ensures { λ _. ⌜ now (out .exit) ≡ writtenAt 0 (proteinResidues (now (sequence .entry)) start l) (now (out .entry)) ⌝ }
 {
+    let codes = residues::protein_codes();
     let mut k = 0;
     while k < l {
-        out[k] = residues::protein_code(sequence[start + k]);
+        out[k] = code_of(&codes, sequence[start + k]);
         k += 1;
     }
 }

@@ -1,8 +1,10 @@
 // Calls that the C face lacks, exported for the benchmark and the tests alone. They are never linked into the library.
 use dsqdata::SetAnswer;
+use sequence::DecodeAnswer;
 ghost use mathlib.Core.Path.{_≡_};
 ghost use lib.ListN.{length};
 ghost use Rattle.dsqdata.specs.Check.{setNumber};
+ghost use Rattle.sequence.specs.Sequence.{decodeAnswer, decodeOutput, decodeNumber};
 ghost use Rattle.timing.specs.Calls.{timedSet, setResults};
 
 // Checks a set: its index, metadata and sequence file. The results are the ten header fields.
@@ -37,5 +39,22 @@ pub extern "C" fn gull_time_check_set(
             console::put_results(results, &values);
             0
         }
+    }
+}
+
+// Decodes the sequence of a number. There is no results range: the caller knows L from the index.
+#[no_mangle]
+pub extern "C" fn gull_time_decode(
+    index: &[u8],
+    sequence: &[u8],
+    number: u64,
+    out: &mut [u8],
+) -> u32
+    ensures number { λ r. ⌜ r ≡ decodeNumber (decodeAnswer (now (index .entry)) (now (sequence .entry)) number (length (now (out .entry)))) ⌝ }
+    ensures output { λ _. ⌜ now (out .exit) ≡ decodeOutput (now (index .entry)) (now (sequence .entry)) number (now (out .entry)) ⌝ }
+{
+    match sequence::decode(index, sequence, number, out) {
+        DecodeAnswer::Refused(r) => answers::number(r),
+        DecodeAnswer::Decoded(_) => 0,
     }
 }

@@ -40,7 +40,6 @@ fn timed(byte: u8, large: &[u8]) -> Result<Outcome, String> {
     let mut outcome = Outcome::default();
     match byte {
         SET_CHECK => timing::check_set_large(&mut outcome, large),
-        #[cfg(feature = "timing-decode")]
         DECODE => timing::decode_large(&mut outcome, large),
         other => return Err(format!("the timing library has no call {other}")),
     }

@@ -1,9 +1,10 @@
 //! Number 22 of calls that the C face lacks and the timing library exports.
 
-use crate::large::files;
-use second::call::SET_CHECK;
+use crate::large::{files, NO_SEQUENCES};
+use second::call::{DECODE, SET_CHECK};
 use second::dsqdata::check_set;
 use second::outcome::Outcome;
+use second::sequence::decode;
 
 #[link(name = "timing", kind = "static")]
 extern "C" {
@@ -18,7 +19,6 @@ extern "C" {
         results_len: usize,
     ) -> u32;
 
-    #[cfg(feature = "timing-decode")]
     fn gull_time_decode(
         index: *const u8,
         index_len: usize,
@@ -27,14 +27,12 @@ extern "C" {
         number: u64,
         output: *mut u8,
         output_len: usize,
-        results: *mut u8,
-        results_len: usize,
     ) -> u32;
 }
 
-/// A number, and whether the results are as they were lent: every case here is a refusal.
-fn line(number: u32, results: &[u8]) -> String {
-    let touched = if results.iter().all(|byte| *byte == 8) { "" } else { " and the results were changed" };
+/// A number, and whether the bytes lent for writing are as they were: every case here is a refusal.
+fn line(number: u32, lent: &[u8]) -> String {
+    let touched = if lent.iter().all(|byte| *byte == 8) { "" } else { " and bytes lent for writing were changed" };
     format!("{number}{touched}")
 }
 
@@ -65,14 +63,10 @@ pub fn check_set_large(outcome: &mut Outcome, large: &[u8]) {
 }
 
 /// Each file of a volume. An index of zeros has version 0; a volume without sequences has none of the number 0.
-#[cfg(feature = "timing-decode")]
 pub fn decode_large(outcome: &mut Outcome, large: &[u8]) {
-    use crate::large::NO_SEQUENCES;
-    use second::call::DECODE;
-    use second::sequence::decode;
     for (files, case) in files(DECODE, &NO_SEQUENCES[..2], &[2, 10], large) {
         let expected = decode(files[0], files[1], 0, &mut []).err().unwrap_or(0);
-        let (mut output, mut results) = ([8u8; 4], [8u8; 8]);
+        let mut output = [8u8; 4];
         let [a, b] = [files[0], files[1]];
         let found = unsafe {
             gull_time_decode(
@@ -83,10 +77,8 @@ pub fn decode_large(outcome: &mut Outcome, large: &[u8]) {
                 0,
                 output.as_mut_ptr(),
                 output.len(),
-                results.as_mut_ptr(),
-                results.len(),
             )
         };
-        outcome.count(&case, &line(expected, &[]), line(found, &[&output[..], &results].concat()));
+        outcome.count(&case, &line(expected, &[]), line(found, &output));
     }
 }

@@ -1,0 +1,123 @@
+/* Decoding one sequence in plain C, with every check of the library's call, in its order. */
+#include "bytes.h"
+#include "index.h"
+#include "reference.h"
+
+#define MOST_BYTES 2147483647u
+
+static const uint8_t amino_codes[28] = {20, 0,  21, 1,  2,  3,  4,  5,  6,  7,  8,  9,  10, 11,
+                                        12, 13, 14, 15, 16, 17, 18, 26, 19, 23, 25, 27, 24, 22};
+static const uint8_t ambiguity_codes[16] = {4, 0, 1, 7, 2, 5, 9, 13, 3, 10, 6, 11, 8, 14, 12, 15};
+
+/* The codes of n protein bytes: 11, 13. */
+static uint32_t write_protein(const uint8_t *from, size_t n, uint8_t *out, size_t room)
+{
+    for (size_t i = 0; i < n; i++)
+        if (from[i] > 27)
+            return 11;
+    if (n > room)
+        return 13;
+    for (size_t i = 0; i < n; i++)
+        out[i] = amino_codes[from[i]];
+    return 0;
+}
+
+/* An entry of an ambiguity table, of 4 or 8 bytes. */
+struct entry {
+    uint32_t value;
+    uint64_t start, repeat;
+};
+
+static struct entry entry_at(const uint8_t *p, int wide)
+{
+    uint32_t high = be32(p);
+    if (wide)
+        return (struct entry){high >> 28, (uint64_t)(high & 0xffff) << 32 | be32(p + 4), (high >> 16 & 0xfff) + 1};
+    return (struct entry){high >> 28, high & 0xffffff, (high >> 24 & 15) + 1};
+}
+
+/* The ambiguity range of a sequence of so many residues: 12, or its entries. */
+static uint32_t check_range(const uint8_t *at, size_t len, uint64_t residues, size_t *entries, int *wide)
+{
+    *entries = 0;
+    *wide = 0;
+    if (len == 0)
+        return 0;
+    if (len < 4)
+        return 12;
+    uint32_t word = be32(at);
+    uint64_t words = word & 0x7fffffff, before = 0;
+    if (len != 4 + 4 * words)
+        return 12;
+    *wide = word >> 31 != 0;
+    if (*wide && words % 2 != 0)
+        return 12;
+    *entries = *wide ? words / 2 : words;
+    for (size_t i = 0; i < *entries; i++) {
+        struct entry e = entry_at(at + 4 + (*wide ? 8 : 4) * i, *wide);
+        if (e.start < before || e.start + e.repeat > residues)
+            return 12;
+        before = e.start + e.repeat;
+    }
+    return 0;
+}
+
+/* The residues of so many two-bit bytes; the last byte has fewer than four. */
+static void write_bases(const uint8_t *from, size_t bytes, size_t residues, uint8_t *out)
+{
+    for (size_t i = 0; i + 1 < bytes; i++) {
+        out[4 * i] = from[i] >> 6;
+        out[4 * i + 1] = from[i] >> 4 & 3;
+        out[4 * i + 2] = from[i] >> 2 & 3;
+        out[4 * i + 3] = from[i] & 3;
+    }
+    for (size_t k = 4 * (bytes - 1); k < residues; k++)
+        out[k] = from[bytes - 1] >> (6 - 2 * (k % 4)) & 3;
+}
+
+/* Protein sequence i: 7, 8, 11, 13. */
+static uint32_t decode_protein(const struct fixed *f, const uint8_t *sequence, size_t sequence_len, size_t i, uint8_t *out, size_t room)
+{
+    int64_t start = offset(f->sequences, i), next = offset(f->sequences, i + 1);
+    if (start < 1 || start >= next || next > (int64_t)sequence_len)
+        return 7;
+    if (sequence[start - 1] != 0 || sequence[next - 1] != 0)
+        return 8;
+    return write_protein(sequence + start, (size_t)(next - 1 - start), out, room);
+}
+
+/* DNA sequence i: 7, 12, 13. */
+static uint32_t decode_dna(const struct fixed *f, const uint8_t *sequence, size_t sequence_len, size_t i, uint8_t *out, size_t room)
+{
+    int64_t start = offset(f->sequences, i), end = offset(f->ambiguities, i), next = offset(f->sequences, i + 1);
+    size_t entries;
+    int wide;
+    if (start < 0 || start >= end || end > next || next > (int64_t)sequence_len)
+        return 7;
+    uint64_t residues = 4 * (uint64_t)(end - start - 1) + (sequence[end - 1] & 3);
+    if (check_range(sequence + end, (size_t)(next - end), residues, &entries, &wide) != 0)
+        return 12;
+    if (residues > room)
+        return 13;
+    write_bases(sequence + start, (size_t)(end - start), residues, out);
+    for (size_t k = 0; k < entries; k++) {
+        struct entry x = entry_at(sequence + end + 4 + (wide ? 8 : 4) * k, wide);
+        memset(out + x.start, ambiguity_codes[x.value], x.repeat);
+    }
+    return 0;
+}
+
+uint32_t c_decode(const uint8_t *index, size_t index_len, const uint8_t *sequence, size_t sequence_len, uint64_t number,
+                  uint8_t *out, size_t out_len)
+{
+    struct fixed f;
+    uint32_t refused;
+    if (index_len > MOST_BYTES || sequence_len > MOST_BYTES)
+        return 22;
+    if ((refused = c_read_index(index, index_len, &f)) != 0)
+        return refused;
+    if (number >= (uint64_t)f.n)
+        return 10;
+    return f.type == 1 ? decode_protein(&f, sequence, sequence_len, number, out, out_len)
+                       : decode_dna(&f, sequence, sequence_len, number, out, out_len);
+}
