@@ -21,7 +21,6 @@ use Rattle.sequence.specs.Bases.{baseAt}
 use Rattle.sequence.specs.Corrections.{entryWidth, entryCount, correctedAt}
 use Rattle.sequence.specs.Sequence.{rangeEnd, decodeAnswer, decodeOutput, decodeNumber, decodeValues}
 use Rattle.sequence.proofs.Checked as Sequence
-use Rattle.sequence.proofs.Given as Given
 use Rattle.dsqdata.specs.Header.{recordOf}
 use Rattle.dsqdata.specs.Check as Set
 use Rattle.dsqdata.specs.Check.{setCheck, setNumber, setValues}
@@ -30,6 +29,7 @@ use Rattle.dsqdata.proofs.SetRules.{zero-rules, rules-zero}
 use Rattle.headers.specs.Record.{checkRecord}
 use Rattle.headers.specs.Statement.{GoodRecord}
 use Rattle.headers.proofs.Record.{passes-good, good-passes}
+use Rattle.demands.proofs.Given as Given
 
 -- ---- volumes
 

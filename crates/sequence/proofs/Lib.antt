@@ -5,4 +5,3 @@ pub mod Corrected
 pub mod Answers
 pub mod Passed
 pub mod Checked
-pub mod Given

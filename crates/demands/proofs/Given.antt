@@ -45,33 +45,30 @@ written-behind new old k d h =
     ap (λ (xs : List ℕ). getD xs k d) (written-start new old) ∙ (rw e at a)
 
 module _ (index sequence : List ℕ) (i : ℕ) (output : List ℕ) (decodes : decodeNumber (decodeAnswer index sequence i (length output)) ≡ 0) where
-  abbrev L : ℕ
-  L = sequenceLength index sequence i
-
-  all : AllHold (decodeRules index sequence i (length output)) × (decodeAnswer index sequence i (length output) ≡ Decoded L)
+  all : AllHold (decodeRules index sequence i (length output)) × (decodeAnswer index sequence i (length output) ≡ Decoded (sequenceLength index sequence i))
   unfolding decodeAnswer
   all =
       let p = decoded-as (decodeAnswer index sequence i (length output)) decodes in
-      let q = passes-with Refused (Decoded L) (Decoded (p .0)) (decoded-not (p .0)) (decodeRules index sequence i (length output)) (p .1) in
+      let q = passes-with Refused (Decoded (sequenceLength index sequence i)) (Decoded (p .0)) (decoded-not (p .0)) (decodeRules index sequence i (length output)) (p .1) in
       (q .0, p .1 ∙ sym (q .1))
 
   -- L is returned
-  pub decoded-values : decodeValues (decodeAnswer index sequence i (length output)) ≡ decodeValues (Decoded L)
+  pub decoded-values : decodeValues (decodeAnswer index sequence i (length output)) ≡ decodeValues (Decoded (sequenceLength index sequence i))
   decoded-values = ap decodeValues (all .1)
 
-  own-hold : AllHold (sequenceRules index sequence i ++ roomRules L (length output))
+  own-hold : AllHold (sequenceRules index sequence i ++ roomRules (sequenceLength index sequence i) (length output))
   unfolding decodeRules
   own-hold =
       let own = ownRules index sequence i (length output) in
       let a = hold-second (decodeSizeRules index sequence) (indexRules index ++ own) (all .0) in
-      hold-second (numberRules index i) (sequenceRules index sequence i ++ roomRules L (length output)) (hold-second (indexRules index) own a)
+      hold-second (numberRules index i) (sequenceRules index sequence i ++ roomRules (sequenceLength index sequence i) (length output)) (hold-second (indexRules index) own a)
 
   -- the output has room for the codes
-  pub decoded-room : L ≤ length output
-  decoded-room = leb-true L (length output) (hold-second (sequenceRules index sequence i) (roomRules L (length output)) own-hold .0)
+  pub decoded-room : sequenceLength index sequence i ≤ length output
+  decoded-room = leb-true (sequenceLength index sequence i) (length output) (hold-second (sequenceRules index sequence i) (roomRules (sequenceLength index sequence i) (length output)) own-hold .0)
 
   decoded-output : decodeOutput index sequence i output ≡ writtenAt 0 (residuesOf index sequence i) output
-  decoded-output = sym (output-by index sequence i output (Decoded L) (sym (all .1)))
+  decoded-output = sym (output-by index sequence i output (Decoded (sequenceLength index sequence i)) (sym (all .1)))
 
   -- ---- protein
 
@@ -105,7 +102,7 @@ module _ (index sequence : List ℕ) (i : ℕ) (output : List ℕ) (decodes : de
 
     range-holds : AllHold (tableRules sequence (dnaEnd index i) (rangeEnd index i) (dnaLength index sequence i))
     range-holds =
-        let a = hold-first (sequenceRules index sequence i) (roomRules L (length output)) own-hold in
+        let a = hold-first (sequenceRules index sequence i) (roomRules (sequenceLength index sequence i) (length output)) own-hold in
         let b : AllHold (dnaRules index sequence i) = rw t at a in
         hold-second (dnaEntryRules index sequence i) (tableRules sequence (dnaEnd index i) (rangeEnd index i) (dnaLength index sequence i)) b
 
