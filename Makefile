@@ -1,5 +1,6 @@
 # make            proves every crate, builds the library and the programs, and runs them on the samples
 # make test       the gate: all proofs from nothing, every must-fail edit, every test
+# make edits      the wrong programs that are kept aside: the prover must refuse each
 # make bench      the library beside plain C and memcpy, in one run
 # make torture    a longer comparison with the second program, over every call it finds: SEED=.. COUNT=.. (cases a call)
 # make install    PREFIX=/usr/local: the header, the library and the programs
@@ -11,7 +12,7 @@ CFLAGS ?= -O2
 STRICT = -std=c99 -Wall -Wextra -Werror -pedantic
 PROGRAMS = gullcheck gullpack gullunpack
 
-.PHONY: all prove lib timing programs demo test bench torture install clean
+.PHONY: all prove lib timing programs demo test edits bench torture install clean
 
 all: prove lib programs demo
 
@@ -42,6 +43,9 @@ timing:
 	rt staticlib timing
 	@mkdir -p build
 	cp target/staticlib/libtiming.a build/libtiming.a
+
+edits:
+	tests/edits/try
 
 bench: lib timing
 	@mkdir -p build/bench
