@@ -1,16 +1,12 @@
 -- Demand 2 for volumes, sets, header records and sequences: a check passes exactly when document 01's rules hold, what decoding can answer for a
 -- sequence of a volume that passes, and what it gives. Packing and unpacking are in Demand2Packets. Assumes nothing.
-use mathlib.Core.Path.{_≡_, refl, ap, _∙_}
+use mathlib.Core.Path.{_≡_}
 use mathlib.Core.Bool.{true, false}
 use mathlib.Core.List.{List, [], _∷_}
 use Prim.Native.Nat.{ℕ, _+_, _≤_, _<_}
 use lib.ListN.{length, getD}
 use Rattle.answers.specs.declared.Checked.the-variants as Check
-use Rattle.answers.proofs.Numbers.{number-not-zero}
 use Rattle.residues.specs.Tables.{proteinCode}
-use Rattle.volume.specs.declared.VolumeRecord.{VolumeRecord}
-use Rattle.volume.specs.declared.VolumeAnswer.{VolumeAnswer}
-use Rattle.volume.specs.declared.VolumeAnswer.the-variants as Volume
 use Rattle.volume.specs.Index.{isProtein, sequences}
 use Rattle.volume.specs.Tables.{sequenceStart, proteinLength, dnaEnd, dnaLength, sequenceLength}
 use Rattle.volume.specs.Volume.{volumeRecord, volumeAnswer, volumeNumber, volumeValues, recordValues}
@@ -35,20 +31,13 @@ use Rattle.demands.proofs.Given as Given
 
 -- The volume check passes only volumes of which the rules hold, and returns their record.
 module _ (index sequence header : List ℕ) where
-  passed-as : (x : VolumeAnswer) → volumeNumber x ≡ 0 → (v : VolumeRecord) × (x ≡ Volume.Passed v)
-  passed-as (Volume.Passed v) e = (v, refl)
-  passed-as (Volume.Refused r) e = absurd (number-not-zero r e)
-
   pub volume-passes-only : volumeNumber (volumeAnswer index sequence header) ≡ 0
       → VolumeHolds index sequence header × (volumeValues (volumeAnswer index sequence header) ≡ recordValues (volumeRecord index))
-  volume-passes-only e =
-      let p = passed-as (volumeAnswer index sequence header) e in
-      let q = Exact.passed-rules index sequence header (p .0) (p .1) in
-      (q .0, ap volumeValues (p .1) ∙ ap recordValues (q .1))
+  volume-passes-only = Exact.zero-rules index sequence header
 
   -- A volume of which they hold passes.
   pub volume-passes : VolumeHolds index sequence header → volumeNumber (volumeAnswer index sequence header) ≡ 0
-  volume-passes h = ap volumeNumber (Exact.rules-pass index sequence header h)
+  volume-passes = Exact.rules-zero index sequence header
 
 -- ---- sets
 

@@ -5,14 +5,13 @@ use mathlib.Core.List.{List, _++_}
 use Prim.Native.Nat.{ℕ, _+_, _-_, _≤_, _<_}
 use native.Mathlib.Omega.{arith}
 use borrow.Author.Tests.{leb-true}
-use lib.ListN.{length, getD, drop, List·getD-append}
-use lib.Seq.{getD-append-add, getD-drop}
+use lib.ListN.{length, getD}
 use Rattle.laws.specs.Rules.{AllHold}
 use Rattle.laws.specs.Writing.{writtenAt}
 use Rattle.laws.proofs.Places.{length-listTo, listTo-at}
 use Rattle.laws.proofs.Passing.{passes-with}
 use Rattle.laws.proofs.Rules.{hold-second, hold-first}
-use Rattle.laws.proofs.Storing.{written-start}
+use Rattle.laws.proofs.Storing.{written-inside, written-after}
 use Rattle.answers.specs.declared.Refusal.{Refusal}
 use Rattle.answers.proofs.Numbers.{number-not-zero}
 use Rattle.residues.specs.Tables.{proteinCode}
@@ -32,17 +31,6 @@ decoded-not l r e = let z : _≡_ {A = ℕ} 0 1 = cc in omega arith
 decoded-as : (x : DecodeAnswer) → decodeNumber x ≡ 0 → (l : ℕ) × (x ≡ Decoded l)
 decoded-as (Decoded l) e = (l, refl)
 decoded-as (Refused r) e = absurd (number-not-zero r e)
-
--- a list written at the start, by place
-written-front : (new old : List ℕ) (k d : ℕ) → k < length new → getD (writtenAt 0 new old) k d ≡ getD new k d
-written-front new old k d h = ap (λ (xs : List ℕ). getD xs k d) (written-start new old) ∙ List·getD-append new (drop (length new) old) d k h
-
-written-behind : (new old : List ℕ) (k d : ℕ) → length new ≤ k → getD (writtenAt 0 new old) k d ≡ getD old k d
-written-behind new old k d h =
-    let e : length new + (k - length new) ≡ k = omega arith in
-    let a : getD (new ++ drop (length new) old) (length new + (k - length new)) d ≡ getD old (length new + (k - length new)) d =
-    getD-append-add new (drop (length new) old) (k - length new) d ∙ getD-drop (length new) old (k - length new) d in
-    ap (λ (xs : List ℕ). getD xs k d) (written-start new old) ∙ (rw e at a)
 
 module _ (index sequence : List ℕ) (i : ℕ) (output : List ℕ) (decodes : decodeNumber (decodeAnswer index sequence i (length output)) ≡ 0) where
   all : AllHold (decodeRules index sequence i (length output)) × (decodeAnswer index sequence i (length output) ≡ Decoded (sequenceLength index sequence i))
@@ -70,36 +58,45 @@ module _ (index sequence : List ℕ) (i : ℕ) (output : List ℕ) (decodes : de
   decoded-output : decodeOutput index sequence i output ≡ writtenAt 0 (residuesOf index sequence i) output
   decoded-output = sym (output-by index sequence i output (Decoded (sequenceLength index sequence i)) (sym (all .1)))
 
+  -- the codes by place: they are at the start of the output, and what follows them is as it was
+  module _ (codes : List ℕ) (own : codes ≡ residuesOf index sequence i) (l : ℕ) (count : length codes ≡ l) (given : l ≤ length output) (k d : ℕ) where
+    codes-fit : 0 + length codes ≤ length output
+    codes-fit = omega arith
+
+    output-at : getD (decodeOutput index sequence i output) k d ≡ getD (writtenAt 0 codes output) k d
+    output-at = ap (λ (xs : List ℕ). getD xs k d) (decoded-output ∙ ap (λ (xs : List ℕ). writtenAt 0 xs output) (sym own))
+
+    code-at : k < l → getD (decodeOutput index sequence i output) k d ≡ getD codes k d
+    code-at h =
+        let e : k - 0 ≡ k = omega arith in
+        output-at ∙ written-inside 0 codes output codes-fit k d (omega arith) (omega arith) ∙ ap (λ (j : ℕ). getD codes j d) e
+
+    rest-at : l ≤ k → getD (decodeOutput index sequence i output) k d ≡ getD output k d
+    rest-at h = output-at ∙ written-after 0 codes output codes-fit k d (omega arith)
+
   -- ---- protein
 
   module _ (t : isProtein index ≡ true) where
-    protein-output : decodeOutput index sequence i output ≡ writtenAt 0 (proteinCodes index sequence i) output
-    protein-output = decoded-output ∙ ap (λ (codes : List ℕ). writtenAt 0 codes output) (sym (residues-protein index sequence i t))
-
     protein-count : length (proteinCodes index sequence i) ≡ proteinLength index i
     protein-count = length-listTo (λ (k : ℕ). proteinCode (byteFrom sequence (sequenceStart index i) k)) (proteinLength index i)
+
+    protein-room : proteinLength index i ≤ length output
+    protein-room = let r = decoded-room in rw t at r
 
     -- the code of each byte
     pub protein-decoded : (k d : ℕ) → k < proteinLength index i
         → getD (decodeOutput index sequence i output) k d ≡ proteinCode (getD sequence (sequenceStart index i + k) 0)
     protein-decoded k d h =
-        let n = protein-count in
-        ap (λ (xs : List ℕ). getD xs k d) protein-output
-        ∙ written-front (proteinCodes index sequence i) output k d (omega arith)
+        code-at (proteinCodes index sequence i) (residues-protein index sequence i t) (proteinLength index i) protein-count protein-room k d h
         ∙ listTo-at (λ (j : ℕ). proteinCode (byteFrom sequence (sequenceStart index i) j)) (proteinLength index i) k d h
 
     -- and the rest as it was
     pub protein-rest : (k d : ℕ) → proteinLength index i ≤ k → getD (decodeOutput index sequence i output) k d ≡ getD output k d
-    protein-rest k d h =
-        let n = protein-count in
-        ap (λ (xs : List ℕ). getD xs k d) protein-output ∙ written-behind (proteinCodes index sequence i) output k d (omega arith)
+    protein-rest = rest-at (proteinCodes index sequence i) (residues-protein index sequence i t) (proteinLength index i) protein-count protein-room
 
   -- ---- DNA
 
   module _ (t : isProtein index ≡ false) where
-    dna-output : decodeOutput index sequence i output ≡ writtenAt 0 (dnaCodes index sequence i) output
-    dna-output = decoded-output ∙ ap (λ (codes : List ℕ). writtenAt 0 codes output) (sym (residues-dna index sequence i t))
-
     range-holds : AllHold (tableRules sequence (dnaEnd index i) (rangeEnd index i) (dnaLength index sequence i))
     range-holds =
         let a = hold-first (sequenceRules index sequence i) (roomRules (sequenceLength index sequence i) (length output)) own-hold in
@@ -109,17 +106,16 @@ module _ (index sequence : List ℕ) (i : ℕ) (output : List ℕ) (decodes : de
     dna-count : length (dnaCodes index sequence i) ≡ dnaLength index sequence i
     dna-count = length-residues sequence (sequenceStart index i) (dnaEnd index i) (rangeEnd index i) (dnaLength index sequence i) range-holds
 
+    dna-room : dnaLength index sequence i ≤ length output
+    dna-room = let r = decoded-room in rw t at r
+
     -- the code of the entry that covers the place, or the base
     pub dna-decoded : (k d : ℕ) → k < dnaLength index sequence i
         → getD (decodeOutput index sequence i output) k d
         ≡ correctedAt sequence (dnaEnd index i + 4) (entryWidth sequence (dnaEnd index i)) (entryCount sequence (dnaEnd index i) (rangeEnd index i)) k (baseAt sequence (sequenceStart index i) k)
     dna-decoded k d h =
-        let n = dna-count in
-        ap (λ (xs : List ℕ). getD xs k d) dna-output
-        ∙ written-front (dnaCodes index sequence i) output k d (omega arith)
+        code-at (dnaCodes index sequence i) (residues-dna index sequence i t) (dnaLength index sequence i) dna-count dna-room k d h
         ∙ residue-at sequence (sequenceStart index i) (dnaEnd index i) (rangeEnd index i) (dnaLength index sequence i) range-holds k d h
 
     pub dna-rest : (k d : ℕ) → dnaLength index sequence i ≤ k → getD (decodeOutput index sequence i output) k d ≡ getD output k d
-    dna-rest k d h =
-        let n = dna-count in
-        ap (λ (xs : List ℕ). getD xs k d) dna-output ∙ written-behind (dnaCodes index sequence i) output k d (omega arith)
+    dna-rest = rest-at (dnaCodes index sequence i) (residues-dna index sequence i t) (dnaLength index sequence i) dna-count dna-room

@@ -12,5 +12,6 @@ pub mod Signed
 pub mod Told
 pub mod Passing
 pub mod Sizes
+pub mod Rising
 pub mod Storing
 pub mod Largest

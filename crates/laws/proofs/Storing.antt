@@ -1,12 +1,12 @@
--- A loop that stores what f gives at one place after another, and lists written into the front of a list. Assumes nothing.
+-- A loop that stores what f gives at one place after another; a list written into another, by place; and lists written at the start. Assumes nothing.
 use mathlib.Core.Path.{_≡_, sym, ap, _∙_}
 use mathlib.Core.List.{List, [], _∷_, _++_, append-assoc}
 use Prim.Native.Nat.{ℕ, _+_, _-_, _≤_, _<_}
 use native.Mathlib.Nat.{add-assoc, zero-add}
 use native.Mathlib.Numerals.{add-one}
 use native.Mathlib.Omega.{arith}
-use lib.ListN.{length, take, drop, getD, set, length-append, length-take}
-use lib.Seq.{set-at, take-append-le, drop-append-le, paste-zero}
+use lib.ListN.{length, take, drop, getD, set, length-append, length-take, List·getD-append}
+use lib.Seq.{set-at, take-append-le, drop-append-le, paste-zero, getD-append-add, getD-take, getD-drop}
 use Rattle.laws.specs.Places.{listTo}
 use Rattle.laws.specs.Writing.{writtenAt}
 use Rattle.laws.proofs.Places.{length-listTo}
@@ -48,3 +48,35 @@ written-append p new a b h =
 -- a list written at the start
 pub written-start : (new old : List ℕ) → writtenAt 0 new old ≡ new ++ drop (length new) old
 written-start new old = rw zero-add
+
+-- ---- a list written into another, by place
+
+module _ (place : ℕ) (new old : List ℕ) (h : place + length new ≤ length old) (k d : ℕ) where
+  front : length (take place old ++ new) ≡ place + length new
+  front = simp (length-append, length-take) (omega arith)
+
+  pub written-before : k < place → getD (writtenAt place new old) k d ≡ getD old k d
+  written-before l =
+      let a : k < length (take place old ++ new) = rw front (omega arith) in
+      let b : k < length (take place old) = rw length-take (omega arith) in
+      List·getD-append (take place old ++ new) (drop (place + length new) old) d k a
+      ∙ List·getD-append (take place old) new d k b
+      ∙ getD-take place old k d l
+
+  pub written-inside : place ≤ k → k < place + length new → getD (writtenAt place new old) k d ≡ getD new (k - place) d
+  written-inside g l =
+      let a : k < length (take place old ++ new) = rw front (omega arith) in
+      let b : k ≡ length (take place old) + (k - place) = rw length-take (omega arith) in
+      List·getD-append (take place old ++ new) (drop (place + length new) old) d k a
+      ∙ ap (λ (i : ℕ). getD (take place old ++ new) i d) b
+      ∙ getD-append-add (take place old) new (k - place) d
+
+  pub written-after : place + length new ≤ k → getD (writtenAt place new old) k d ≡ getD old k d
+  written-after g =
+      let n = k - (place + length new) in
+      let b : k ≡ length (take place old ++ new) + n = rw front (omega arith) in
+      let e : place + length new + n ≡ k = omega arith in
+      ap (λ (i : ℕ). getD (writtenAt place new old) i d) b
+      ∙ getD-append-add (take place old ++ new) (drop (place + length new) old) n d
+      ∙ getD-drop (place + length new) old n d
+      ∙ ap (λ (i : ℕ). getD old i d) e

@@ -9,20 +9,16 @@ use borrow.Author.Tests.{leb-false}
 use lib.Dec.{leb}
 use Rattle.laws.specs.Places.{every}
 use Rattle.laws.specs.Rules.{Rule, verdict, AllHold}
-use Rattle.laws.proofs.Rules.{verdict-passes, verdict-append, not-refused}
+use Rattle.laws.proofs.Rules.{verdict-passes, verdict-append}
 use Rattle.laws.proofs.Tests.{bool-cases}
 use Rattle.answers.specs.declared.Refusal.{Refusal}
 use Rattle.answers.specs.declared.Refusal.the-variants.{BadProteinByte, BadAmbiguity, NoRoom}
 use Rattle.answers.specs.declared.Checked.the-variants as Check
 use Rattle.answers.proofs.Checks.{holds-passed}
-use Rattle.answers.proofs.Numbers.{number-not-zero}
 use Rattle.volume.specs.declared.IndexAnswer.the-variants as Index
-use Rattle.volume.specs.declared.VolumeRecord.{VolumeRecord}
-use Rattle.volume.specs.declared.VolumeAnswer.{VolumeAnswer}
-use Rattle.volume.specs.declared.VolumeAnswer.the-variants as Volume
 use Rattle.volume.specs.Index.{isProtein, sequences, indexRules, indexOf}
 use Rattle.volume.specs.Tables.{sequenceStart, proteinLength, dnaEnd, dnaLength, sequenceLength, proteinOffsetRules, proteinSeparatorRules, dnaOffsetRules}
-use Rattle.volume.specs.Volume.{volumeRules, volumeRecord, volumeAnswer, volumeNumber}
+use Rattle.volume.specs.Volume.{volumeAnswer, volumeNumber}
 use Rattle.volume.proofs.Exact as Exact
 use Rattle.sequence.specs.declared.DecodeAnswer.{DecodeAnswer}
 use Rattle.sequence.specs.declared.DecodeAnswer.the-variants.{Decoded, Refused}
@@ -31,9 +27,6 @@ use Rattle.sequence.specs.Corrections.{isTable, entryWidth, entryCount, 
 use Rattle.sequence.specs.Sequence.{rangeEnd, isProteinByte, proteinEntryRules, proteinByteRules, dnaEntryRules, roomRules, decodeSizeRules, ownAnswer, decodeAnswer, decodeNumber}
 use Rattle.sequence.proofs.Answers.{own-protein, own-dna, decode-read}
 use Rattle.sequence.proofs.Passed.{protein-entries, dna-entries}
-
-refused-not : (v : VolumeRecord) (r : Refusal) → Volume.Refused r ≡ Volume.Passed v → ⊥
-refused-not v r e = let z : _≡_ {A = ℕ} 0 1 = cc in omega arith
 
 -- the room decides last
 module _ (l room : ℕ) where
@@ -59,16 +52,8 @@ module _ (l room : ℕ) where
       ∙ verdict-passes Refused (verdict Refused last rest) entries h
 
 module _ (index sequence header : List ℕ) (passes : volumeNumber (volumeAnswer index sequence header) ≡ 0) (i : ℕ) (below : i < sequences index) (room : ℕ) where
-  rules-hold : AllHold (volumeRules index sequence header)
-  unfolding volumeAnswer
-  rules-hold = zero-all (volumeAnswer index sequence header) passes refl
-    where
-      zero-all : (x : VolumeAnswer) → volumeNumber x ≡ 0 → volumeAnswer index sequence header ≡ x → AllHold (volumeRules index sequence header)
-      zero-all (Volume.Passed v) e f = not-refused Volume.Refused (Volume.Passed (volumeRecord index)) (Volume.Passed v) (volumeRules index sequence header) (refused-not v) f
-      zero-all (Volume.Refused r) e f = absurd (number-not-zero r e)
-
   parts : Exact.VolumeParts index sequence header
-  parts = Exact.volume-parts index sequence header rules-hold
+  parts = Exact.volume-parts index sequence header (Exact.zero-all index sequence header passes)
 
   own-decides : ownAnswer index sequence i room ≡ decodeAnswer index sequence i room
   own-decides =

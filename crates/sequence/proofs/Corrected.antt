@@ -8,14 +8,13 @@ use native.Mathlib.Nat.{eq-or-lt-of-le, le-of-suc-le-suc, not-suc-le-zero}
 use native.Mathlib.Numerals.{add-one}
 use native.Mathlib.Omega.{arith}
 use lib.Dec.{leb, ltb}
-use lib.ListN.{length, getD, take, drop, length-append, length-take, List·getD-append}
-use lib.Seq.{getD-append-add, getD-take, getD-drop}
+use lib.ListN.{length, getD, drop}
 use borrow.Author.Tests.{lt-leb, leb-true, leb-false, ltb-true, ltb-false}
 use Rattle.laws.specs.Places.{every, listTo}
 use Rattle.laws.specs.Rules.{AllHold}
 use Rattle.laws.specs.Writing.{writtenAt}
 use Rattle.laws.proofs.Places.{length-listTo, listTo-at}
-use Rattle.laws.proofs.Storing.{written-append, written-start}
+use Rattle.laws.proofs.Storing.{written-before, written-inside, written-after, written-append, written-start}
 use Rattle.laws.proofs.Tests.{bool-cases, both-pass}
 use Rattle.laws.proofs.Writing.{length-written}
 use Rattle.residues.specs.Tables.{ambiguityCode}
@@ -24,38 +23,6 @@ use Rattle.sequence.specs.Corrections.{correctionAt, correctionEnd, pain
 use Rattle.sequence.specs.Bases.{baseAt, twoBitResidues}
 use Rattle.sequence.specs.Sequence.{dnaResidues}
 use Rattle.sequence.proofs.Ranges.{ends-within, starts-after, table-ends}
-
--- ---- a list written into another, by place
-
-module _ (place : ℕ) (new old : List ℕ) (h : place + length new ≤ length old) (k d : ℕ) where
-  front : length (take place old ++ new) ≡ place + length new
-  front = simp (length-append, length-take) (omega arith)
-
-  written-before : k < place → getD (writtenAt place new old) k d ≡ getD old k d
-  written-before l =
-      let a : k < length (take place old ++ new) = rw front (omega arith) in
-      let b : k < length (take place old) = rw length-take (omega arith) in
-      List·getD-append (take place old ++ new) (drop (place + length new) old) d k a
-      ∙ List·getD-append (take place old) new d k b
-      ∙ getD-take place old k d l
-
-  written-inside : place ≤ k → k < place + length new → getD (writtenAt place new old) k d ≡ getD new (k - place) d
-  written-inside g l =
-      let a : k < length (take place old ++ new) = rw front (omega arith) in
-      let b : k ≡ length (take place old) + (k - place) = rw length-take (omega arith) in
-      List·getD-append (take place old ++ new) (drop (place + length new) old) d k a
-      ∙ ap (λ (i : ℕ). getD (take place old ++ new) i d) b
-      ∙ getD-append-add (take place old) new (k - place) d
-
-  written-after : place + length new ≤ k → getD (writtenAt place new old) k d ≡ getD old k d
-  written-after g =
-      let n = k - (place + length new) in
-      let b : k ≡ length (take place old ++ new) + n = rw front (omega arith) in
-      let e : place + length new + n ≡ k = omega arith in
-      ap (λ (i : ℕ). getD (writtenAt place new old) i d) b
-      ∙ getD-append-add (take place old ++ new) (drop (place + length new) old) n d
-      ∙ getD-drop (place + length new) old n d
-      ∙ ap (λ (i : ℕ). getD old i d) e
 
 -- ---- one correction
 

@@ -1,50 +1,53 @@
 -- The offsets of a DNA volume that passed are not negative: each is above one that is not. Assumes nothing.
-use mathlib.Core.Path.{_≡_, refl}
+use mathlib.Core.Path.{_≡_, refl, sym, _∙_}
 use mathlib.Core.Bool.{Bool, true, false, cond}
 use mathlib.Core.List.{List}
-use Prim.Native.Nat.{ℕ, zero, suc, _+_, _-_, _≤_, _<_}
-use native.Mathlib.Numerals.{add-one}
+use Prim.Native.Nat.{ℕ, suc, _+_, _-_, _≤_, _<_}
 use native.Mathlib.Omega.{arith}
+use borrow.Author.Tests.{leb-true}
 use lib.IntN.{ℤ, pos, negsuc}
 use lib.Dec.{ltb}
 use lib.Signed.{ltZ, leZ, nonNeg}
 use Rattle.laws.specs.Rules.{AllHold}
-use Rattle.laws.specs.Signed.{toNat, eqZ}
+use Rattle.laws.specs.Signed.{toNat}
 use Rattle.laws.proofs.Places.{every-at}
+use Rattle.laws.proofs.Rising.{above-natural, natural}
+use Rattle.laws.proofs.Signed.{eq-test}
+use Rattle.laws.proofs.Sizes.{le-sizes, sized-natural}
 use Rattle.laws.proofs.Tests.{both-pass, never}
 use Rattle.fields.specs.Number.{big, unsignedAt, signedAt}
 use Rattle.volume.specs.Index.{sequences, sequenceTable, ambiguityTable}
-use Rattle.volume.specs.Tables.{between, sequenceOffset, ambiguityOffset, dnaOffsetRules}
-
-above : (a b : ℤ) → nonNeg a ≡ true → ltZ a b ≡ true → nonNeg b ≡ true
-above a (pos n) h e = refl
-above (pos m) (negsuc n) h e = never e
-above (negsuc m) (negsuc n) h e = never h
-
-reached : (a b : ℤ) → nonNeg a ≡ true → leZ a b ≡ true → nonNeg b ≡ true
-reached a (pos n) h e = refl
-reached (pos m) (negsuc n) h e = never e
-reached (negsuc m) (negsuc n) h e = never h
-
-stated : (z : ℤ) (n : ℕ) → eqZ z (pos n) ≡ true → nonNeg z ≡ true
-stated (pos m) n e = refl
-stated (negsuc m) n e = never e
+use Rattle.volume.specs.Tables.{between, sequenceOffset, ambiguityOffset, firstNucleotideOffset, dnaOffsetRules}
 
 module _ (index sequence : List ℕ) (h : AllHold (dnaOffsetRules index sequence)) where
-  step : (k : ℕ) → k < sequences index → (ltZ (sequenceOffset index k) (ambiguityOffset index k) ≡ true) × (leZ (ambiguityOffset index k) (sequenceOffset index (k + 1)) ≡ true)
-  step k l = both-pass _ _ (every-at (between index (sequenceTable index) (ambiguityTable index)) (sequences index) k l (h .1 .0))
+  abbrev N : ℕ
+  N = sequences index
 
-  -- S[k] is not negative
-  pub natural-start : (k : ℕ) → k ≤ sequences index → nonNeg (sequenceOffset index k) ≡ true
-  natural-start zero l = stated (sequenceOffset index 0) 0 (h .0)
-  natural-start (suc k) l =
-      let s = step k (omega arith) in
-      let a = above (sequenceOffset index k) (ambiguityOffset index k) (natural-start k (omega arith)) (s .0) in
-      rw (← add-one k) (reached (ambiguityOffset index k) (sequenceOffset index (k + 1)) a (s .1))
+  abbrev S : ℕ → ℤ
+  S = sequenceOffset index
 
-  -- A[k] is not negative
-  pub natural-end : (k : ℕ) → k < sequences index → nonNeg (ambiguityOffset index k) ≡ true
-  natural-end k l = above (sequenceOffset index k) (ambiguityOffset index k) (natural-start k (omega arith)) (step k l .0)
+  pub dna-between : (i : ℕ) → i < N → (ltZ (S i) (ambiguityOffset index i) ≡ true) × (leZ (ambiguityOffset index i) (S (i + 1)) ≡ true)
+  dna-between i l = both-pass _ _ (every-at (between index (sequenceTable index) (ambiguityTable index)) N i l (h .1 .0))
+
+  pub dna-step : (i : ℕ) → i < N → nonNeg (S i) ≡ true → (nonNeg (S (i + 1)) ≡ true) × (toNat (S i) < toNat (S (i + 1)))
+  dna-step i l n =
+      let b = dna-between i l in
+      let a = above-natural (S i) (ambiguityOffset index i) n (b .0) in
+      let k = a .1 in
+      let c : toNat (ambiguityOffset index i) ≤ toNat (S (i + 1)) =
+      leb-true _ _ (sym (le-sizes (ambiguityOffset index i) (S (i + 1)) (omega arith)) ∙ b .1) in
+      (sized-natural (S (i + 1)) (omega arith), omega arith)
+
+  pub dna-first : nonNeg (S 0) ≡ true
+  dna-first = rw (eq-test (S 0) (pos firstNucleotideOffset) (h .0))
+
+  -- S[i] is not negative
+  pub natural-start : (i : ℕ) → i ≤ N → nonNeg (S i) ≡ true
+  natural-start = natural S N dna-first dna-step
+
+  -- A[i] is not negative
+  pub natural-end : (i : ℕ) → i < N → nonNeg (ambiguityOffset index i) ≡ true
+  natural-end i l = above-natural (S i) (ambiguityOffset index i) (natural-start i (omega arith)) (dna-between i l .0) .0
 
 -- a field that is not negative states what its bytes write
 natural-bits : (b : Bool) (n m : ℕ) → nonNeg (cond b (pos n) (negsuc m)) ≡ true → n ≡ toNat (cond b (pos n) (negsuc m))

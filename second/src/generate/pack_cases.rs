@@ -54,7 +54,12 @@ impl Plan {
 
 /// The rules of packing in the order of its refusals.
 fn rules(byte: u8, alphabet: Alphabet) -> Vec<Rule<Plan>> {
-    let mut rules = vec![alphabet_rule(alphabet), code_rule(alphabet), fits_rule(), place_rule()];
+    let mut rules = vec![
+        runs::alphabet_rule(alphabet, |plan: &mut Plan| &mut plan.alphabet),
+        code_rule(alphabet),
+        fits_rule(),
+        place_rule(),
+    ];
     if byte == CONSOLE_PACK {
         rules.push(
             rule(NO_ROOM, "only whole packets of the buffer count")
@@ -65,25 +70,9 @@ fn rules(byte: u8, alphabet: Alphabet) -> Vec<Rule<Plan>> {
                     (plan.room, plan.spare) = (run_end(plan) - 1, 3)
                 }),
         );
-        rules.push(
-            rule(NO_ROOM, "the results have 16 bytes")
-                .passes("16", |plan: &mut Plan| plan.results = 16)
-                .breaks("15", |plan| plan.results = 15)
-                .farther(|plan, rng| plan.results = rng.below(16)),
-        );
+        rules.push(runs::results_rule(|plan: &mut Plan| &mut plan.results));
     }
     rules
-}
-
-fn alphabet_rule(alphabet: Alphabet) -> Rule<Plan> {
-    let rule = rule(WRONG_TYPE, "the alphabet is 1, 2 or 3")
-        .breaks("0", |plan: &mut Plan| plan.alphabet = 0)
-        .breaks("4", |plan| plan.alphabet = 4)
-        .farther(|plan, rng| plan.alphabet = runs::wrong_alphabet(rng));
-    match alphabet {
-        Alphabet::Nucleic => rule.passes("1", |plan| plan.alphabet = 1).passes("2", |plan| plan.alphabet = 2),
-        Alphabet::Amino => rule.passes("3", |plan| plan.alphabet = 3),
-    }
 }
 
 fn code_rule(alphabet: Alphabet) -> Rule<Plan> {

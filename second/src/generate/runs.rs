@@ -1,6 +1,8 @@
-//! Valid codes and well-formed runs by chance.
+//! Valid codes and well-formed runs by chance, and the rules that packing and unpacking share.
 
 use super::rng::Rng;
+use super::rules::{rule, Rule};
+use crate::answers::{NO_ROOM, WRONG_TYPE};
 use crate::packets::{five_bit_packet, Packet};
 use crate::residues::Alphabet;
 
@@ -49,6 +51,28 @@ pub fn wrong_alphabet(rng: &mut Rng) -> u64 {
         (1 << 63) + low,
         u64::MAX,
     ])
+}
+
+/// The rule of the alphabet's number, which a plan has in a field.
+pub fn alphabet_rule<P: 'static>(alphabet: Alphabet, number: fn(&mut P) -> &mut u64) -> Rule<P> {
+    let rule = rule(WRONG_TYPE, "the alphabet is 1, 2 or 3")
+        .breaks("0", move |plan| *number(plan) = 0)
+        .breaks("4", move |plan| *number(plan) = 4)
+        .farther(move |plan, rng| *number(plan) = wrong_alphabet(rng));
+    match alphabet {
+        Alphabet::Nucleic => {
+            rule.passes("1", move |plan| *number(plan) = 1).passes("2", move |plan| *number(plan) = 2)
+        }
+        Alphabet::Amino => rule.passes("3", move |plan| *number(plan) = 3),
+    }
+}
+
+/// The console's rule of the two results, for which a plan has a size.
+pub fn results_rule<P: 'static>(size: fn(&mut P) -> &mut usize) -> Rule<P> {
+    rule(NO_ROOM, "the results have 16 bytes")
+        .passes("16", move |plan| *size(plan) = 16)
+        .breaks("15", move |plan| *size(plan) = 15)
+        .farther(move |plan, rng| *size(plan) = rng.below(16))
 }
 
 /// A well-formed run of this many packets, not only such as packing makes.

@@ -23,7 +23,7 @@ pub fn rules(byte: u8, alphabet: Alphabet) -> Vec<Rule<Plan>> {
                 .farther(|plan, _| plan.extra = 2),
         );
     }
-    rules.push(alphabet_rule(alphabet));
+    rules.push(runs::alphabet_rule(alphabet, |plan: &mut Plan| &mut plan.number));
     rules.extend(packet_rules(alphabet));
     rules.extend(field_rules(alphabet));
     rules.push(
@@ -33,25 +33,9 @@ pub fn rules(byte: u8, alphabet: Alphabet) -> Vec<Rule<Plan>> {
             .farther(|plan, _| plan.room = 0),
     );
     if byte == CONSOLE_UNPACK {
-        rules.push(
-            rule(NO_ROOM, "the results have 16 bytes")
-                .passes("16", |plan: &mut Plan| plan.results = 16)
-                .breaks("15", |plan| plan.results = 15)
-                .farther(|plan, rng| plan.results = rng.below(16)),
-        );
+        rules.push(runs::results_rule(|plan: &mut Plan| &mut plan.results));
     }
     rules
-}
-
-fn alphabet_rule(alphabet: Alphabet) -> Rule<Plan> {
-    let rule = rule(WRONG_TYPE, "the alphabet is 1, 2 or 3")
-        .breaks("0", |plan: &mut Plan| plan.number = 0)
-        .breaks("4", |plan| plan.number = 4)
-        .farther(|plan, rng| plan.number = runs::wrong_alphabet(rng));
-    match alphabet {
-        Alphabet::Nucleic => rule.passes("1", |plan| plan.number = 1).passes("2", |plan| plan.number = 2),
-        Alphabet::Amino => rule.passes("3", |plan| plan.number = 3),
-    }
 }
 
 /// What a run asks of whole packets. These and the rules of fields are one number, in no order.
