@@ -9,10 +9,10 @@ use crate::output::put_hex;
 use crate::output::put_next;
 use crate::output::put_number;
 use crate::output::put_signed;
-use headers::Identifier;
-use headers::IdentifierAnswer;
-use headers::ObjectId;
-use headers::TitleAnswer;
+use deflines::Identifier;
+use deflines::IdentifierAnswer;
+use deflines::ObjectId;
+use deflines::TitleAnswer;
 
 fn put_object(object: ObjectId) {
     match object {
@@ -94,7 +94,7 @@ pub fn find_identifier() -> usize {
     if !place.there {
         return CUT;
     }
-    let answer = headers::find_identifier(part(&header, h), place.start, place.end, place.number);
+    let answer = deflines::find_identifier(part(&header, h), place.start, place.end, place.number);
     put_identifier_answer(answer);
     end_line();
     0

@@ -55,14 +55,14 @@ use Rattle.elements.specs.declared.SpanAnswer.the-variants as Span
 use Rattle.elements.specs.declared.IntegerAnswer.{IntegerAnswer}
 use Rattle.elements.specs.declared.IntegerAnswer.the-variants as Integer
 use Rattle.headers.specs.Record.{checkRecord}
-use Rattle.headers.specs.Calls.{titleOf, identifierOf, firstOf}
-use Rattle.headers.specs.Answers.{titleNumber, titleValues, identifierNumber, identifierValues, firstNumber, firstValues}
-use Rattle.headers.specs.declared.TitleAnswer.{TitleAnswer}
-use Rattle.headers.specs.declared.TitleAnswer.the-variants as Title
-use Rattle.headers.specs.declared.IdentifierAnswer.{IdentifierAnswer}
-use Rattle.headers.specs.declared.IdentifierAnswer.the-variants as Identifier
-use Rattle.headers.specs.declared.FirstAnswer.{FirstAnswer}
-use Rattle.headers.specs.declared.FirstAnswer.the-variants as First
+use Rattle.deflines.specs.Calls.{titleOf, identifierOf, firstOf}
+use Rattle.deflines.specs.Answers.{titleNumber, titleValues, identifierNumber, identifierValues, firstNumber, firstValues}
+use Rattle.deflines.specs.declared.TitleAnswer.{TitleAnswer}
+use Rattle.deflines.specs.declared.TitleAnswer.the-variants as Title
+use Rattle.deflines.specs.declared.IdentifierAnswer.{IdentifierAnswer}
+use Rattle.deflines.specs.declared.IdentifierAnswer.the-variants as Identifier
+use Rattle.deflines.specs.declared.FirstAnswer.{FirstAnswer}
+use Rattle.deflines.specs.declared.FirstAnswer.the-variants as First
 use Rattle.labels.specs.Walker.{place, placeAfter, stepOf, stepNumber, stepValues}
 use Rattle.labels.specs.Label.{labelOf, labelNumber, labelPart}
 use Rattle.labels.specs.declared.LabelAnswer.{LabelAnswer}

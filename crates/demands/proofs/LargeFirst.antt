@@ -18,8 +18,8 @@ use Rattle.dsqdata.specs.Check.{sizeRules, fileRules, setRules, setCheck, setNu
 use Rattle.dsqdata.specs.Lookup.{lookupRules, lookupOf, lookupNumber}
 use Rattle.dsqdata.specs.declared.SetRecord.{SetRecord}
 use Rattle.headers.specs.Record.{checkRecord}
-use Rattle.headers.specs.Calls.{titleOf, identifierOf, firstOf}
-use Rattle.headers.specs.Answers.{titleNumber, identifierNumber, firstNumber}
+use Rattle.deflines.specs.Calls.{titleOf, identifierOf, firstOf}
+use Rattle.deflines.specs.Answers.{titleNumber, identifierNumber, firstNumber}
 use Rattle.labels.specs.Walker.{stepOf, stepNumber}
 use Rattle.labels.specs.Label.{labelOf, labelNumber}
 use Rattle.console.specs.Calls.{consolePack, consoleUnpack, consoleVolume}

@@ -1,7 +1,1 @@
 pub mod Record
-pub mod Walks
-pub mod Identifiers
-pub mod Calls
-pub mod Count
-pub mod Written
-pub mod Within

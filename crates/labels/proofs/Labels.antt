@@ -22,10 +22,10 @@ use Rattle.answers.specs.declared.Checked.{Checked}
 use Rattle.answers.specs.declared.Checked.the-variants as C
 use Rattle.answers.proofs.Alone.{refused-alone, passed-alone}
 use Rattle.elements.specs.declared.Span.{Span}
-use Rattle.headers.specs.declared.FirstAnswer.{FirstAnswer}
-use Rattle.headers.specs.declared.FirstAnswer.the-variants as G
-use Rattle.headers.specs.Calls.{firstOf}
-use Rattle.headers.proofs.Within.{first-within}
+use Rattle.deflines.specs.declared.FirstAnswer.{FirstAnswer}
+use Rattle.deflines.specs.declared.FirstAnswer.the-variants as G
+use Rattle.deflines.specs.Calls.{firstOf}
+use Rattle.deflines.proofs.Within.{first-within}
 use Rattle.volume.specs.declared.Index.{Index}
 use Rattle.volume.specs.declared.IndexAnswer.{IndexAnswer}
 use Rattle.volume.specs.declared.IndexAnswer.the-variants as X

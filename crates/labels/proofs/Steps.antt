@@ -12,13 +12,13 @@ use Rattle.answers.specs.declared.Refusal.{Refusal}
 use Rattle.answers.specs.declared.Refusal.the-variants.{NoSuchSequence}
 use Rattle.answers.specs.declared.Checked.the-variants as C
 use Rattle.elements.specs.declared.Span.{Span}
-use Rattle.headers.specs.declared.TitleAnswer.the-variants as T
-use Rattle.headers.specs.declared.TitleSearch.the-variants as A
 use Rattle.headers.specs.Record.{checkRecord}
-use Rattle.headers.specs.Fields.{titlesOf}
-use Rattle.headers.specs.Calls.{titleFrom, titleGiven, titleOf}
-use Rattle.headers.proofs.Calls.{title-passed}
-use Rattle.headers.proofs.Count.{title-found, title-left}
+use Rattle.deflines.specs.declared.TitleAnswer.the-variants as T
+use Rattle.deflines.specs.declared.TitleSearch.the-variants as A
+use Rattle.deflines.specs.Fields.{titlesOf}
+use Rattle.deflines.specs.Calls.{titleFrom, titleGiven, titleOf}
+use Rattle.deflines.proofs.Calls.{title-passed}
+use Rattle.deflines.proofs.Count.{title-found, title-left}
 use Rattle.labels.specs.declared.Step.{Step}
 use Rattle.labels.specs.Walker.{place, stepOf, stepThen, walked}
 

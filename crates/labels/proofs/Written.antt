@@ -8,10 +8,10 @@ use lib.ListN.{length}
 use lib.Signed.{nonNeg, _≤ℤ_}
 use Rattle.laws.specs.Signed.{toNat}
 use Rattle.laws.proofs.Signed.{test-le, at-least-zero}
-use Rattle.headers.specs.Calls.{firstOf}
 use Rattle.headers.specs.Statement.{GoodRecord}
-use Rattle.headers.specs.Written.{firstWritten}
-use Rattle.headers.proofs.Written.{first-is}
+use Rattle.deflines.specs.Calls.{firstOf}
+use Rattle.deflines.specs.Written.{firstWritten}
+use Rattle.deflines.proofs.Written.{first-is}
 use Rattle.volume.specs.declared.Index.{Index}
 use Rattle.volume.specs.declared.IndexAnswer.the-variants as X
 use Rattle.volume.specs.Index.{titleLength, sequences, headerTable, indexAnswer}

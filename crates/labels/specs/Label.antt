@@ -13,9 +13,9 @@ use Rattle.answers.specs.Numbers.{numberOf}
 use Rattle.answers.specs.declared.Refusal.{Refusal}
 use Rattle.answers.specs.declared.Refusal.the-variants.{BadOffsets, NoSuchSequence, TooLarge}
 use Rattle.elements.specs.Parts.{span, bytesOf}
-use Rattle.headers.specs.declared.FirstAnswer.{FirstAnswer}
-use Rattle.headers.specs.declared.FirstAnswer.the-variants as G
-use Rattle.headers.specs.Calls.{firstOf}
+use Rattle.deflines.specs.declared.FirstAnswer.{FirstAnswer}
+use Rattle.deflines.specs.declared.FirstAnswer.the-variants as G
+use Rattle.deflines.specs.Calls.{firstOf}
 use Rattle.volume.specs.Index.{titleStart, titleLength, sequences, headerTable, indexAnswer}
 use Rattle.volume.specs.Tables.{offsetAt}
 use Rattle.volume.specs.declared.IndexAnswer.{IndexAnswer}

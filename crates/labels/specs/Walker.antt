@@ -3,10 +3,10 @@
 use Prim.Native.Nat.{ℕ, zero, suc, _+_}
 use mathlib.Core.List.{List, [], _∷_}
 use Rattle.elements.specs.declared.Span.{Span}
-use Rattle.headers.specs.declared.TitleAnswer.{TitleAnswer}
-use Rattle.headers.specs.declared.TitleAnswer.the-variants as T
-use Rattle.headers.specs.Calls.{titleOf}
-use Rattle.headers.specs.Answers.{titleNumber, titleValues}
+use Rattle.deflines.specs.declared.TitleAnswer.{TitleAnswer}
+use Rattle.deflines.specs.declared.TitleAnswer.the-variants as T
+use Rattle.deflines.specs.Calls.{titleOf}
+use Rattle.deflines.specs.Answers.{titleNumber, titleValues}
 use Rattle.labels.specs.declared.Place.{Place}
 use Rattle.labels.specs.declared.Step.{Step}
 

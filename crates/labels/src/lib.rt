@@ -1,9 +1,9 @@
 // The console's record walker, and the label of a sequence.
 use answers::Checked;
 use answers::Refusal;
+use deflines::FirstAnswer;
+use deflines::TitleAnswer;
 use elements::Span;
-use headers::FirstAnswer;
-use headers::TitleAnswer;
 use volume::IndexAnswer;
 ghost use mathlib.Core.Path.{_≡_};
 ghost use Prim.Native.Nat.{_≤_};
@@ -37,7 +37,7 @@ pub struct Step {
 fn step_at(header: &[u8], start: u64, end: u64, given: u64) -> Step
     ensures { λ r. ⌜ r ≡ stepOf (now (header .entry)) start end given ⌝ }
 {
-    match headers::title(header, start, end, given) {
+    match deflines::title(header, start, end, given) {
         TitleAnswer::Title(t) => Step {
             answer: TitleAnswer::Title(t),
             after: Place {
@@ -132,7 +132,7 @@ fn offsets_label(header: &[u8], title: usize, low: i32, high: i32) -> LabelAnswe
         Checked::Refused(r) => LabelAnswer::Refused(r),
         Checked::Passed => record_label(
             title,
-            headers::first_title(header, stated(low), stated(high)),
+            deflines::first_title(header, stated(low), stated(high)),
         ),
     }
 }

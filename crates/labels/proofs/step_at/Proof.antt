@@ -1,7 +1,7 @@
 -- `labels::step_at`: a title that is given is one of few, so one more can be counted; a refusal leaves the place. Assumes nothing.
 use native.Mathlib.Omega.{arith}
 use mathlib.Core.Path.{sym, _∙_}
-use Rattle.headers.proofs.Count.{title-bound}
+use Rattle.deflines.proofs.Count.{title-bound}
 use Rattle.labels.proofs.Steps.{step-title, step-refused}
 use borrow.Author.Needs.{needs}
 use Rattle.labels.proofs.step_at.Statement.{statement}

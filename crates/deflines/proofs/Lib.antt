@@ -1,0 +1,6 @@
+pub mod Walks
+pub mod Identifiers
+pub mod Calls
+pub mod Count
+pub mod Written
+pub mod Within

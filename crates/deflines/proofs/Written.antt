@@ -1,0 +1,235 @@
+-- The titles and the identifiers of a good record are those that it writes, none missed and none added. Assumes nothing.
+use mathlib.Core.Path.{_≡_, refl, sym, ap, _∙_}
+use mathlib.Core.List.{List, [], _∷_, _++_, append-nil, flatMap}
+use Prim.Native.Nat.{ℕ, zero, suc, _+_, _-_, _≤_, _<_}
+use native.Mathlib.Omega.{arith}
+use borrow.Author.Tests.{eq-eqb, ne-eqb}
+use lib.ListN.{length, getD, take}
+use Rattle.answers.specs.declared.Refusal.the-variants.{NoSuchSequence}
+use Rattle.elements.specs.declared.Span.{Span}
+use Rattle.elements.specs.declared.ElementAnswer.the-variants.{End, Refused}
+use Rattle.elements.specs.declared.Form.{Form}
+use Rattle.elements.specs.declared.Form.the-variants as F
+use Rattle.elements.specs.Parts.{textAt}
+use Rattle.elements.specs.Reading.{read}
+use Rattle.elements.specs.Statement.{Items}
+use Rattle.elements.specs.Statement as E
+use Rattle.elements.specs.DefLines.{ObjectIdElement, IdentifierElement, FieldElement, RisingFields, DefLineElement}
+use Rattle.elements.specs.DefLines as Z
+use Rattle.elements.proofs.Reading.{ends-within}
+use Rattle.elements.proofs.Began.{bytes-close, byte-not-close, read-byte}
+use Rattle.elements.proofs.Shape.{field-reads, identifier-reads, def-line-reads, any-reads}
+use Rattle.elements.proofs.Written.{text-written, integer-written}
+use Rattle.headers.specs.Statement.{GoodRecord}
+use Rattle.headers.proofs.Record.{good-passes}
+use Rattle.deflines.specs.declared.TitleAnswer.the-variants as T
+use Rattle.deflines.specs.declared.Identifier.{Identifier}
+use Rattle.deflines.specs.declared.Identifier.the-variants as D
+use Rattle.deflines.specs.declared.IdentifierAnswer.the-variants as I
+use Rattle.deflines.specs.declared.Field.the-variants as L
+use Rattle.deflines.specs.Fields.{elementsFrom, fieldAt, titleField, fieldTitles, fieldIdentifiers, titlesIn, titlesOf, identifiersIn, identifiersOf, firstTitles}
+use Rattle.deflines.specs.Calls.{numbered, titleFrom, titleGiven, titleOf, giAnswer, numberAnswer, textAnswer, localAt, identifierAt, placeFrom, identifierGiven, identifierOf, firstGiven, firstOf}
+use Rattle.deflines.specs.Written.{fieldTitle, lineTitles, setTitles, titlesWritten, firstTitle, firstLine, firstWritten, objectWritten, identifierWritten, listIdentifiers, fieldIdentifier, lineIdentifiers, setIdentifiers, identifiersWritten}
+use Rattle.deflines.proofs.Walks.{from-close, from-passed}
+use Rattle.deflines.proofs.Calls.{title-passed, identifier-passed, first-passed}
+
+-- ---- one element more
+
+module _ (s : List ℕ) (depth : ℕ) (form : Form) (turns p q : ℕ) (few : depth ≤ 16) (l : length s < turns + p) (e : read depth form s p ≡ End q) where
+  whole : read 16 F.Any s p ≡ End q
+  whole = any-reads s depth 16 form p q few e
+
+  past : (p < q) × (q ≤ length s)
+  past = let w = ends-within depth form s p q e in (omega arith, w .1)
+
+  next : elementsFrom turns s p ≡ p ∷ elementsFrom (turns - 1) s q
+  next = let w = past in from-passed turns s p q (omega arith) (byte-not-close s p (read-byte depth form s p q e)) whole
+
+  left : length s < turns - 1 + q
+  left = let w = past in omega arith
+
+  flat : {X : Type 0} (f : ℕ → List X) → flatMap f (elementsFrom turns s p) ≡ f p ++ flatMap f (elementsFrom (turns - 1) s q)
+  unfolding flatMap
+  flat f = rw next
+
+ended : {X : Type 0} (s : List ℕ) (turns p : ℕ) (f : ℕ → List X) → E.Close s p → flatMap f (elementsFrom turns s p) ≡ []
+unfolding flatMap
+ended s turns p f c = rw (from-close turns s p (bytes-close s p c))
+
+-- ---- fields by their tags
+
+field-byte : {s : List ℕ} {at n tag : ℕ} → FieldElement s at n tag → getD s at 0 ≡ tag
+field-byte (Z.title c) = c .tagged .is
+field-byte (Z.seqid c) = c .tagged .is
+field-byte (Z.taxid c) = c .tagged .is
+field-byte (Z.memberships c) = c .tagged .is
+field-byte (Z.links c) = c .tagged .is
+field-byte (Z.info c) = c .tagged .is
+
+other-field : (s : List ℕ) (p tag : ℕ) → getD s p 0 ≡ tag → 162 ≤ tag → fieldAt s p ≡ L.Other
+unfolding fieldAt
+other-field s p tag e h =
+    let a : tag ≡ 161 → ⊥ = λ z. omega arith in
+    let b : tag ≡ 160 → ⊥ = λ z. omega arith in
+    rw (e, ne-eqb _ _ a, ne-eqb _ _ b)
+
+title-field : (s : List ℕ) (p : ℕ) (t : Span) → getD s p 0 ≡ 160 → titleField (textAt s (p + 2)) ≡ L.Title t → fieldAt s p ≡ L.Title t
+unfolding fieldAt
+title-field s p t e h = rw (eq-eqb (getD s p 0) 160 e, e) h
+
+list-field : (s : List ℕ) (p : ℕ) → getD s p 0 ≡ 161 → fieldAt s p ≡ L.Identifiers (p + 2)
+unfolding fieldAt
+list-field s p e = rw (eq-eqb (getD s p 0) 161 e)
+
+field-titles : {s : List ℕ} {p q tag : ℕ} (f : FieldElement s p q tag) → fieldTitles (fieldAt s p) ≡ fieldTitle f
+field-titles {s} {p} (Z.title c) = ap fieldTitles (title-field s p _ (c .tagged .is) (ap titleField (text-written (c .one))))
+field-titles {s} {p} (Z.seqid c) = ap fieldTitles (list-field s p (c .tagged .is))
+field-titles {s} {p} (Z.taxid c) = ap fieldTitles (other-field s p 162 (c .tagged .is) (omega arith))
+field-titles {s} {p} (Z.memberships c) = ap fieldTitles (other-field s p 163 (c .tagged .is) (omega arith))
+field-titles {s} {p} (Z.links c) = ap fieldTitles (other-field s p 164 (c .tagged .is) (omega arith))
+field-titles {s} {p} (Z.info c) = ap fieldTitles (other-field s p 165 (c .tagged .is) (omega arith))
+
+-- ---- titles
+
+line-titles : {s : List ℕ} {low p n : ℕ} (turns : ℕ) → length s < turns + p → (x : RisingFields s low p n)
+    → flatMap (λ q. fieldTitles (fieldAt s q)) (elementsFrom turns s p) ≡ lineTitles x
+line-titles {s} {low} {p} turns l (Z.close c e) = ended s turns p (λ q. fieldTitles (fieldAt s q)) c
+line-titles {s} {low} {p} turns l (Z.field {q} tag h f rest) =
+    let r = field-reads s .full p q (tag, f) in
+    flat s 14 F.Field turns p q (omega arith) l r (λ q. fieldTitles (fieldAt s q))
+    ∙ ap (λ (x : List Span). x ++ flatMap (λ q. fieldTitles (fieldAt s q)) (elementsFrom (turns - 1) s q)) (field-titles f)
+    ∙ ap (λ (x : List Span). fieldTitle f ++ x) (line-titles (turns - 1) (left s 14 F.Field turns p q (omega arith) l r) rest)
+
+set-titles : {s : List ℕ} {p n : ℕ} (turns : ℕ) → length s < turns + p → (x : Items (DefLineElement s) s p n)
+    → flatMap (titlesIn s) (elementsFrom turns s p) ≡ setTitles x
+unfolding titlesIn
+set-titles {s} {p} turns l (E.close c e) = ended s turns p (titlesIn s) c
+set-titles {s} {p} turns l (E.item {q} line rest) =
+    let r = def-line-reads s .full p q line in
+    flat s 15 F.DefLine turns p q (omega arith) l r (titlesIn s)
+    ∙ ap (λ (x : List Span). x ++ flatMap (titlesIn s) (elementsFrom (turns - 1) s q)) (line-titles (suc (length s)) (omega arith) (line .fields))
+    ∙ ap (λ (x : List Span). lineTitles (line .fields) ++ x) (set-titles (turns - 1) (left s 15 F.DefLine turns p q (omega arith) l r) rest)
+
+-- the first def-line alone
+first-number : (ts : List Span) → firstGiven (titleFrom ts 0) ≡ firstTitle ts
+first-number [] = refl
+first-number (t ∷ ts) = refl
+
+set-first : {s : List ℕ} {p n : ℕ} (turns : ℕ) → length s < turns + p → (x : Items (DefLineElement s) s p n)
+    → firstGiven (titleFrom (flatMap (titlesIn s) (take 1 (elementsFrom turns s p))) 0) ≡ firstLine x
+unfolding titlesIn flatMap
+set-first {s} {p} turns l (E.close c e) = rw (from-close turns s p (bytes-close s p c))
+set-first {s} {p} turns l (E.item {q} line rest) =
+    let r = def-line-reads s .full p q line in
+    rw (next s 15 F.DefLine turns p q (omega arith) l r, append-nil)
+    (ap (λ (ts : List Span). firstGiven (titleFrom ts 0)) (line-titles (suc (length s)) (omega arith) (line .fields)) ∙ first-number (lineTitles (line .fields)))
+
+-- ---- identifiers
+
+-- places at which the identifiers of a list stand
+abbrev Stand : List ℕ → List ℕ → List Identifier → Type 0
+Stand s [] [] = Unit {0}
+Stand s [] (i ∷ is) = ⊥
+Stand s (p ∷ ps) [] = ⊥
+Stand s (p ∷ ps) (i ∷ is) = (identifierAt s p ≡ I.Found i) × Stand s ps is
+
+stand-append : (s : List ℕ) (ps qs : List ℕ) (is js : List Identifier) → Stand s ps is → Stand s qs js → Stand s (ps ++ qs) (is ++ js)
+stand-append s [] qs [] js a b = b
+stand-append s [] qs (i ∷ is) js a b = absurd a
+stand-append s (p ∷ ps) qs [] js a b = absurd a
+stand-append s (p ∷ ps) qs (i ∷ is) js a b = (a .0, stand-append s ps qs is js (a .1) b)
+
+object-known : {s : List ℕ} {p q : ℕ} (o : ObjectIdElement s p q) → localAt s p ≡ I.Found (D.Local (objectWritten o))
+unfolding localAt
+object-known {s} {p} (Z.number c) = rw (eq-eqb (getD s p 0) 160 (c .tagged .is)) (ap numberAnswer (integer-written (c .one)))
+object-known {s} {p} (Z.text c) =
+    let n : getD s p 0 ≡ 160 → ⊥ = λ z. let e = c .tagged .is in omega arith in
+    rw (ne-eqb (getD s p 0) 160 n) (ap textAnswer (text-written (c .one)))
+
+identifier-known : {s : List ℕ} {p q : ℕ} (i : IdentifierElement s p q) → identifierAt s p ≡ I.Found (identifierWritten i)
+unfolding identifierAt
+identifier-known {s} {p} (Z.local c) =
+    let n : getD s p 0 ≡ 171 → ⊥ = λ z. let e = c .tagged .is in omega arith in
+    rw (ne-eqb (getD s p 0) 171 n, eq-eqb (getD s p 0) 160 (c .tagged .is)) (object-known (c .one))
+identifier-known {s} {p} (Z.gi c) = rw (eq-eqb (getD s p 0) 171 (c .tagged .is)) (ap giAnswer (integer-written (c .one)))
+identifier-known {s} {p} (Z.other tag low high not c) =
+    let e = c .tagged .is in
+    let n : getD s p 0 ≡ 171 → ⊥ = λ z. not (sym e ∙ z) in
+    let m : getD s p 0 ≡ 160 → ⊥ = λ z. omega arith in
+    rw (ne-eqb (getD s p 0) 171 n, ne-eqb (getD s p 0) 160 m) (ap (λ (x : ℕ). I.Found (D.Other x)) e)
+
+list-stand : {s : List ℕ} {p n : ℕ} (turns : ℕ) → length s < turns + p → (x : Items (IdentifierElement s) s p n) → Stand s (elementsFrom turns s p) (listIdentifiers x)
+list-stand {s} {p} turns l (E.close c e) = rw (from-close turns s p (bytes-close s p c)) tt
+list-stand {s} {p} turns l (E.item {q} i rest) =
+    let r = identifier-reads s .full p q i in
+    rw (next s 12 F.Identifier turns p q (omega arith) l r) (identifier-known i, list-stand (turns - 1) (left s 12 F.Identifier turns p q (omega arith) l r) rest)
+
+none-stand : (s : List ℕ) (ps : List ℕ) → ps ≡ [] → Stand s ps []
+none-stand s ps e = rw e tt
+
+field-stand : {s : List ℕ} {p q tag : ℕ} (f : FieldElement s p q tag) → Stand s (fieldIdentifiers s (fieldAt s p)) (fieldIdentifier f)
+field-stand {s} {p} (Z.title c) = none-stand s _ (ap (fieldIdentifiers s) (title-field s p _ (c .tagged .is) (ap titleField (text-written (c .one)))))
+field-stand {s} {p} (Z.seqid c) = rw (list-field s p (c .tagged .is)) (list-stand (suc (length s)) (omega arith) (c .one .items))
+field-stand {s} {p} (Z.taxid c) = none-stand s _ (ap (fieldIdentifiers s) (other-field s p 162 (c .tagged .is) (omega arith)))
+field-stand {s} {p} (Z.memberships c) = none-stand s _ (ap (fieldIdentifiers s) (other-field s p 163 (c .tagged .is) (omega arith)))
+field-stand {s} {p} (Z.links c) = none-stand s _ (ap (fieldIdentifiers s) (other-field s p 164 (c .tagged .is) (omega arith)))
+field-stand {s} {p} (Z.info c) = none-stand s _ (ap (fieldIdentifiers s) (other-field s p 165 (c .tagged .is) (omega arith)))
+
+line-stand : {s : List ℕ} {low p n : ℕ} (turns : ℕ) → length s < turns + p → (x : RisingFields s low p n)
+    → Stand s (flatMap (λ q. fieldIdentifiers s (fieldAt s q)) (elementsFrom turns s p)) (lineIdentifiers x)
+line-stand {s} {low} {p} turns l (Z.close c e) = none-stand s _ (ended s turns p (λ q. fieldIdentifiers s (fieldAt s q)) c)
+line-stand {s} {low} {p} turns l (Z.field {q} tag h f rest) =
+    let r = field-reads s .full p q (tag, f) in
+    rw (flat s 14 F.Field turns p q (omega arith) l r (λ q. fieldIdentifiers s (fieldAt s q)))
+    (stand-append s (fieldIdentifiers s (fieldAt s p)) (flatMap (λ q. fieldIdentifiers s (fieldAt s q)) (elementsFrom (turns - 1) s q)) (fieldIdentifier f) (lineIdentifiers rest) (field-stand f) (line-stand (turns - 1) (left s 14 F.Field turns p q (omega arith) l r) rest))
+
+set-stand : {s : List ℕ} {p n : ℕ} (turns : ℕ) → length s < turns + p → (x : Items (DefLineElement s) s p n)
+    → Stand s (flatMap (identifiersIn s) (elementsFrom turns s p)) (setIdentifiers x)
+unfolding identifiersIn
+set-stand {s} {p} turns l (E.close c e) = none-stand s _ (ended s turns p (identifiersIn s) c)
+set-stand {s} {p} turns l (E.item {q} line rest) =
+    let r = def-line-reads s .full p q line in
+    rw (flat s 15 F.DefLine turns p q (omega arith) l r (identifiersIn s))
+    (stand-append s (identifiersIn s p) (flatMap (identifiersIn s) (elementsFrom (turns - 1) s q)) (lineIdentifiers (line .fields)) (setIdentifiers rest) (line-stand (suc (length s)) (omega arith) (line .fields)) (set-stand (turns - 1) (left s 15 F.DefLine turns p q (omega arith) l r) rest))
+
+-- ---- the calls
+
+title-number : (ts : List Span) (k : ℕ) → titleGiven (titleFrom ts k) ≡ numbered ts k T.Title (λ _. T.Refused NoSuchSequence)
+title-number [] k = refl
+title-number (t ∷ ts) zero = refl
+title-number (t ∷ ts) (suc k) = title-number ts k
+
+place-number : (s : List ℕ) (ps : List ℕ) (is : List Identifier) (k : ℕ) → Stand s ps is
+    → identifierGiven s (placeFrom ps k) ≡ numbered is k I.Found (λ _. I.Refused NoSuchSequence)
+place-number s [] [] k h = refl
+place-number s [] (i ∷ is) k h = absurd h
+place-number s (p ∷ ps) [] k h = absurd h
+place-number s (p ∷ ps) (i ∷ is) zero h = h .0
+place-number s (p ∷ ps) (i ∷ is) (suc k) h = place-number s ps is k (h .1)
+
+module _ (header : List ℕ) (start end : ℕ) (good : GoodRecord header start end) where
+  pub titles-are : titlesOf (take end header) start ≡ titlesWritten good
+  unfolding titlesOf
+  titles-are = set-titles (suc (length (take end header))) (omega arith) (good .shape .items)
+
+  -- the title call gives title k of those that a good record writes, or 10
+  pub title-is : (k : ℕ) → titleOf header start end k ≡ numbered (titlesWritten good) k T.Title (λ _. T.Refused NoSuchSequence)
+  title-is k =
+      sym (title-passed header start end k _ (good-passes header start end good) refl)
+      ∙ title-number (titlesOf (take end header) start) k
+      ∙ ap (λ (ts : List Span). numbered ts k T.Title (λ _. T.Refused NoSuchSequence)) titles-are
+
+  -- the identifier call gives identifier k of those that a good record writes, or 10
+  pub identifier-is : (k : ℕ) → identifierOf header start end k ≡ numbered (identifiersWritten good) k I.Found (λ _. I.Refused NoSuchSequence)
+  unfolding identifiersOf
+  identifier-is k =
+      sym (identifier-passed header start end k _ (good-passes header start end good) refl)
+      ∙ place-number (take end header) (identifiersOf (take end header) start) (identifiersWritten good) k
+      (set-stand (suc (length (take end header))) (omega arith) (good .shape .items))
+
+  -- the first title call gives the title of the first def-line that a good record writes
+  pub first-is : firstOf header start end ≡ firstWritten good
+  unfolding firstTitles
+  first-is =
+      sym (first-passed header start end _ (good-passes header start end good) refl)
+      ∙ set-first (suc (length (take end header))) (omega arith) (good .shape .items)

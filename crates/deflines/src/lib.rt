@@ -1,0 +1,344 @@
+// The def-lines of a record that passes its check: titles and identifiers.
+use answers::Checked;
+use answers::Refusal;
+use elements::ElementAnswer;
+use elements::Form;
+use elements::IntegerAnswer;
+use elements::Span;
+use elements::SpanAnswer;
+ghost use mathlib.Core.Path.{_≡_};
+ghost use Prim.Native.Nat.{_+_, _≤_};
+ghost use lib.ListN.{length};
+ghost use Rattle.deflines.specs.Fields.{elementsIn, fieldAt, titlesIn, titlesOf, identifiersIn, identifiersOf, firstTitles};
+ghost use Rattle.deflines.specs.Calls.{titleFrom, titleGiven, titleOf, placeFrom, giAnswer, numberAnswer, textAnswer, localAt, identifierAt, placeSmall, identifierGiven, identifierOf, firstGiven, firstOf};
+
+// The titles given before a title, and the numbers of identifiers, count through all def-lines of a record.
+
+// The answer of the title call: a title's place in the header file.
+pub enum TitleAnswer {
+    Title(Span),
+    Refused(Refusal),
+}
+
+// A local name: a number, or text in the header file.
+pub enum ObjectId {
+    Number(i64),
+    Text(Span),
+}
+
+// An identifier: a gi number, a local name, or another kind by its tag.
+pub enum Identifier {
+    Gi(i64),
+    Local(ObjectId),
+    Other(u8),
+}
+
+// The answer of the identifier call.
+pub enum IdentifierAnswer {
+    Found(Identifier),
+    Refused(Refusal),
+}
+
+// The answer of the first title call.
+pub enum FirstAnswer {
+    Title(Span),
+    Untitled,
+    Refused(Refusal),
+}
+
+// A field of a def-line: its title, the list of its identifiers, or another field.
+pub enum Field {
+    Title(Span),
+    Identifiers(usize),
+    Other,
+}
+
+// A title that was looked for: found, or so many are left to pass.
+pub enum TitleSearch {
+    Found(Span),
+    Left(u64),
+}
+
+// A place that was looked for: found, or so many are left to pass.
+pub enum PlaceSearch {
+    Found(usize),
+    Left(u64),
+}
+
+// The field of a def-line at a place.
+fn field_at(s: &[u8], p: usize) -> Field
+    requires { ⌜ p + 2 ≤ length (now s) ⌝ }
+    ensures { λ r. ⌜ r ≡ fieldAt (now (s .entry)) p ⌝ }
+{
+    let b = fields::byte(s, p);
+    if b == 161 {
+        return Field::Identifiers(p + 2);
+    }
+    if b != 160 {
+        return Field::Other;
+    }
+    match elements::text(s, p + 2) {
+        SpanAnswer::Refused(_) => Field::Other,
+        SpanAnswer::Part(t) => Field::Title(t),
+    }
+}
+
+// The title after k others of the def-line at a place: the walk stops for titles and steps past every other field.
+fn title_in_line(s: &[u8], line: usize, k: u64) -> TitleSearch
+    requires { ⌜ line + 2 ≤ length (now s) ⌝ }
+    ensures { λ r. ⌜ r ≡ titleFrom (titlesIn (now (s .entry)) line) k ⌝ }
+{
+    let mut p = line + 2;
+    let mut left = k;
+    while !elements::closes_at(s, p) {
+        let e = elements::element(s, p, Form::Any, 16);
+        let ElementAnswer::End(n) = e else {
+            return TitleSearch::Left(left);
+        };
+        let field = field_at(s, p);
+        p = n;
+        let Field::Title(t) = field else {
+            continue;
+        };
+        if left == 0 {
+            return TitleSearch::Found(t);
+        }
+        left -= 1;
+    }
+    TitleSearch::Left(left)
+}
+
+// The title after k others of the record at a place.
+fn title_in_record(s: &[u8], start: usize, k: u64) -> TitleSearch
+    requires { ⌜ start + 2 ≤ length (now s) ⌝ }
+    ensures { λ r. ⌜ r ≡ titleFrom (titlesOf (now (s .entry)) start) k ⌝ }
+{
+    let mut p = start + 2;
+    let mut left = k;
+    while !elements::closes_at(s, p) {
+        let e = elements::element(s, p, Form::Any, 16);
+        let ElementAnswer::End(n) = e else {
+            return TitleSearch::Left(left);
+        };
+        let found = title_in_line(s, p, left);
+        let TitleSearch::Left(rest) = found else {
+            return found;
+        };
+        left = rest;
+        p = n;
+    }
+    TitleSearch::Left(left)
+}
+
+// The place of the element after k others of the list at a place.
+fn element_in_list(s: &[u8], list: usize, k: u64) -> PlaceSearch
+    requires { ⌜ list ≤ length (now s) ⌝ }
+    ensures { λ r. ⌜ r ≡ placeFrom (elementsIn (now (s .entry)) list) k ⌝ }
+{
+    if s.len() - list < 2 {
+        return PlaceSearch::Left(k);
+    }
+    let mut p = list + 2;
+    let mut left = k;
+    while !elements::closes_at(s, p) {
+        let e = elements::element(s, p, Form::Any, 16);
+        let ElementAnswer::End(n) = e else {
+            return PlaceSearch::Left(left);
+        };
+        if left == 0 {
+            return PlaceSearch::Found(p);
+        }
+        left -= 1;
+        p = n;
+    }
+    PlaceSearch::Left(left)
+}
+
+// The place of the identifier after k others of the def-line at a place.
+fn identifier_in_line(s: &[u8], line: usize, k: u64) -> PlaceSearch
+    requires { ⌜ line + 2 ≤ length (now s) ⌝ }
+    ensures { λ r. ⌜ r ≡ placeFrom (identifiersIn (now (s .entry)) line) k ⌝ }
+{
+    let mut p = line + 2;
+    let mut left = k;
+    while !elements::closes_at(s, p) {
+        let e = elements::element(s, p, Form::Any, 16);
+        let ElementAnswer::End(n) = e else {
+            return PlaceSearch::Left(left);
+        };
+        let field = field_at(s, p);
+        p = n;
+        let Field::Identifiers(list) = field else {
+            continue;
+        };
+        let found = element_in_list(s, list, left);
+        let PlaceSearch::Left(rest) = found else {
+            return found;
+        };
+        left = rest;
+    }
+    PlaceSearch::Left(left)
+}
+
+// The place of the identifier after k others of the record at a place.
+fn identifier_in_record(s: &[u8], start: usize, k: u64) -> PlaceSearch
+    requires { ⌜ start + 2 ≤ length (now s) ⌝ }
+    ensures { λ r. ⌜ r ≡ placeFrom (identifiersOf (now (s .entry)) start) k ⌝ }
+{
+    let mut p = start + 2;
+    let mut left = k;
+    while !elements::closes_at(s, p) {
+        let e = elements::element(s, p, Form::Any, 16);
+        let ElementAnswer::End(n) = e else {
+            return PlaceSearch::Left(left);
+        };
+        let found = identifier_in_line(s, p, left);
+        let PlaceSearch::Left(rest) = found else {
+            return found;
+        };
+        left = rest;
+        p = n;
+    }
+    PlaceSearch::Left(left)
+}
+
+// The answer for a title that was looked for.
+fn given_title(found: TitleSearch) -> TitleAnswer
+    ensures { λ r. ⌜ r ≡ titleGiven found ⌝ }
+{
+    match found {
+        TitleSearch::Found(t) => TitleAnswer::Title(t),
+        TitleSearch::Left(_) => TitleAnswer::Refused(Refusal::NoSuchSequence),
+    }
+}
+
+// The title after so many others of the record from start up to end of a header file.
+pub fn title(header: &[u8], start: u64, end: u64, given: u64) -> TitleAnswer
+    ensures { λ r. ⌜ r ≡ titleOf (now (header .entry)) start end given ⌝ }
+{
+    match headers::check_record(header, start, end) {
+        Checked::Refused(r) => TitleAnswer::Refused(r),
+        Checked::Passed => {
+            let stop = end as usize;
+            given_title(title_in_record(&header[..stop], start as usize, given))
+        }
+    }
+}
+
+// The gi identifier of an integer that was read.
+fn gi_answer(number: IntegerAnswer) -> IdentifierAnswer
+    ensures { λ r. ⌜ r ≡ giAnswer number ⌝ }
+{
+    match number {
+        IntegerAnswer::Integer(z) => IdentifierAnswer::Found(Identifier::Gi(z)),
+        IntegerAnswer::Refused(r) => IdentifierAnswer::Refused(r),
+    }
+}
+
+// The local identifier of an integer that was read.
+fn number_answer(number: IntegerAnswer) -> IdentifierAnswer
+    ensures { λ r. ⌜ r ≡ numberAnswer number ⌝ }
+{
+    match number {
+        IntegerAnswer::Integer(z) => IdentifierAnswer::Found(Identifier::Local(ObjectId::Number(
+            z,
+        ))),
+        IntegerAnswer::Refused(r) => IdentifierAnswer::Refused(r),
+    }
+}
+
+// The local identifier of a text that was read.
+fn text_answer(text: SpanAnswer) -> IdentifierAnswer
+    ensures { λ r. ⌜ r ≡ textAnswer text ⌝ }
+{
+    match text {
+        SpanAnswer::Part(t) => IdentifierAnswer::Found(Identifier::Local(ObjectId::Text(t))),
+        SpanAnswer::Refused(r) => IdentifierAnswer::Refused(r),
+    }
+}
+
+// The local name at a place.
+fn local_at(s: &[u8], p: usize) -> IdentifierAnswer
+    requires { ⌜ p ≤ 4294967296 ⌝ }
+    ensures { λ r. ⌜ r ≡ localAt (now (s .entry)) p ⌝ }
+{
+    if fields::byte(s, p) == 160 {
+        return number_answer(elements::integer(s, p + 2));
+    }
+    text_answer(elements::text(s, p + 2))
+}
+
+// The identifier at a place.
+fn identifier_at(s: &[u8], p: usize) -> IdentifierAnswer
+    requires { ⌜ p ≤ 4294967294 ⌝ }
+    ensures { λ r. ⌜ r ≡ identifierAt (now (s .entry)) p ⌝ }
+{
+    let b = fields::byte(s, p);
+    if b == 171 {
+        return gi_answer(elements::integer(s, p + 2));
+    }
+    if b == 160 {
+        return local_at(s, p + 2);
+    }
+    IdentifierAnswer::Found(Identifier::Other(b))
+}
+
+// The answer for an identifier that was looked for.
+fn given_identifier(s: &[u8], found: PlaceSearch) -> IdentifierAnswer
+    requires { ⌜ placeSmall found ⌝ }
+    ensures { λ r. ⌜ r ≡ identifierGiven (now (s .entry)) found ⌝ }
+{
+    match found {
+        PlaceSearch::Found(p) => identifier_at(s, p),
+        PlaceSearch::Left(_) => IdentifierAnswer::Refused(Refusal::NoSuchSequence),
+    }
+}
+
+// The identifier of a number, from 0 over all def-lines, of the record from start up to end of a header file.
+pub fn find_identifier(header: &[u8], start: u64, end: u64, number: u64) -> IdentifierAnswer
+    ensures { λ r. ⌜ r ≡ identifierOf (now (header .entry)) start end number ⌝ }
+{
+    match headers::check_record(header, start, end) {
+        Checked::Refused(r) => IdentifierAnswer::Refused(r),
+        Checked::Passed => {
+            let stop = end as usize;
+            let s = &header[..stop];
+            given_identifier(s, identifier_in_record(s, start as usize, number))
+        }
+    }
+}
+
+// The title of the first def-line of the record at a place.
+fn title_in_first(s: &[u8], start: usize) -> TitleSearch
+    requires { ⌜ start + 2 ≤ length (now s) ⌝ }
+    ensures { λ r. ⌜ r ≡ titleFrom (firstTitles (now (s .entry)) start) 0 ⌝ }
+{
+    let found = element_in_list(s, start, 0);
+    let PlaceSearch::Found(line) = found else {
+        return TitleSearch::Left(0);
+    };
+    title_in_line(s, line, 0)
+}
+
+// The answer for a first title that was looked for.
+fn given_first(found: TitleSearch) -> FirstAnswer
+    ensures { λ r. ⌜ r ≡ firstGiven found ⌝ }
+{
+    match found {
+        TitleSearch::Found(t) => FirstAnswer::Title(t),
+        TitleSearch::Left(_) => FirstAnswer::Untitled,
+    }
+}
+
+// The first def-line's title, where it has one, of the record from start up to end of a header file.
+pub fn first_title(header: &[u8], start: u64, end: u64) -> FirstAnswer
+    ensures { λ r. ⌜ r ≡ firstOf (now (header .entry)) start end ⌝ }
+{
+    match headers::check_record(header, start, end) {
+        Checked::Refused(r) => FirstAnswer::Refused(r),
+        Checked::Passed => {
+            let stop = end as usize;
+            given_first(title_in_first(&header[..stop], start as usize))
+        }
+    }
+}
