@@ -14,7 +14,8 @@ use Rattle.fields.proofs.Laws.{unsigned-bytes}
 use Rattle.packets.specs.Bytes.{packetsOf, bytesOf}
 use Rattle.packets.specs.Positions.{byteOf}
 use Rattle.packets.proofs.Bytes.{length-packets, packets-at, packets-bytes}
-use Rattle.dsqdata.specs.Header.{setOrder, setField, packetsIn, packetAt, bodyOf}
+use Rattle.metadata.specs.Fields.{setOrder, setField}
+use Rattle.dsqdata.specs.Header.{packetsIn, packetAt, bodyOf}
 use Rattle.dsqdata.proofs.Bodies.{body-length, body-at}
 
 bytes-behind : (w h : ℕ) (s : List ℕ) (at k : ℕ) → bytesAt w (drop h s) at k ≡ bytesAt w s (at + h) k

@@ -2,10 +2,9 @@ pub mod EachRule
 pub mod Signs
 pub mod Bodies
 pub mod Rising
-pub mod Closings
+pub mod Texts
 pub mod Parts
 pub mod Wholes
-pub mod MetadataRules
 pub mod SetRules
 pub mod Demand
 pub mod LookupRules

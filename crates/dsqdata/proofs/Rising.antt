@@ -20,7 +20,8 @@ use Rattle.laws.proofs.Tests.{true-T, T-true}
 use Rattle.packets.specs.Ends.{after, lastPlace}
 use Rattle.packets.proofs.Ends.{Low, above, low-next, same-end, after-last, last-low}
 use Rattle.packets.proofs.Lengths.{unpacked-most}
-use Rattle.dsqdata.specs.Header.{setSigned, packetsIn, bodyOf}
+use Rattle.metadata.specs.Fields.{setSigned}
+use Rattle.dsqdata.specs.Header.{packetsIn, bodyOf}
 use Rattle.dsqdata.specs.Ends.{packetTable, endBefore, risesAt, runAt, residuesAt}
 use Rattle.dsqdata.specs.Check.{endsRules}
 use Rattle.dsqdata.specs.Rules.{EndsRule}

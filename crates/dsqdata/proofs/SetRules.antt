@@ -18,19 +18,21 @@ use Rattle.answers.proofs.Numbers.{number-not-zero}
 use Rattle.residues.specs.Alphabets.{isAlphabet}
 use Rattle.packets.specs.Runs.{wellFormed}
 use Rattle.packets.proofs.Rules.{formed-rules, rules-formed}
+use Rattle.metadata.specs.declared.Texts.{Texts}
+use Rattle.metadata.specs.declared.Texts.the-variants.{Lengths, Bad}
+use Rattle.metadata.specs.Record.{textsIn, isGood, nameLength, accessionLength, descriptionLength}
+use Rattle.metadata.specs.Rules.{MetadataRule}
+use Rattle.metadata.proofs.Rules.{texts-rule, rule-texts}
 use Rattle.dsqdata.specs.declared.SetRecord.{SetRecord}
 use Rattle.dsqdata.specs.declared.SetAnswer.{SetAnswer}
 use Rattle.dsqdata.specs.declared.SetAnswer.the-variants.{Passed, Refused}
-use Rattle.dsqdata.specs.declared.metadata.Texts.{Texts}
-use Rattle.dsqdata.specs.declared.metadata.Texts.the-variants.{Lengths, Bad}
 use Rattle.dsqdata.specs.Header.{alphabetOf, countOf, recordOf, bytesAfterHeader, packetsIn}
 use Rattle.dsqdata.specs.Ends.{metadataTable, packetTable, runAt, metadataStart}
-use Rattle.dsqdata.specs.Metadata.{textsIn, textsAt, isGood, nameLength, accessionLength, descriptionLength, nameAt, accessionAt, descriptionAt}
+use Rattle.dsqdata.specs.Records.{textsAt, nameAt, accessionAt, descriptionAt}
 use Rattle.dsqdata.specs.Check.{sizeRules, startRules, tagRules, fileRules, headerRules, countRules, bodyRules, layoutRules, metadataEndsRules, packetEndsRules, rulesOfRun, runRules, rulesOfRecord, recordRules, statedRules, totalRules, behindRuns, restRules, contentRules, setRules, otherRules, setCheck, setNumber, setValues, recordValues}
-use Rattle.dsqdata.specs.Rules.{MetadataRule, OtherRules, SetRules}
+use Rattle.dsqdata.specs.Rules.{OtherRules, SetRules}
 use Rattle.dsqdata.proofs.EachRule.{rules-at, rules-all}
 use Rattle.dsqdata.proofs.Rising.{ends-rule, rule-ends}
-use Rattle.dsqdata.proofs.MetadataRules.{texts-rule, rule-texts}
 
 -- ---- one run, one record, one alphabet
 

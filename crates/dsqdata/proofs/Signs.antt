@@ -1,18 +1,17 @@
--- Ends and taxonomy ids as the machine holds signed numbers. Assumes nothing.
+-- Ends as the machine holds signed numbers. Assumes nothing.
 use mathlib.Core.Path.{_≡_, refl, sym, ap, _∙_}
 use mathlib.Core.Bool.{Bool, true, false, not}
-use Prim.Native.Nat.{ℕ, zero, suc, _+_, _^_, _<_}
+use Prim.Native.Nat.{ℕ, _+_, _^_, _<_}
 use native.Mathlib.Omega.{arith}
 use lib.IntN.{ℤ, pos, negsuc, natAbs}
 use lib.Dec.{T, ltb, leb}
 use lib.Signed.{ltZ, leZ, mag, nonNeg}
-use borrow.Author.Tests.{ltb-true, ltb-false, lt-ltb, le-ltb, le-leb, lt-leb}
-use mir.Syntax.{Width, w32, w64}
+use borrow.Author.Tests.{ltb-true, ltb-false, le-leb, lt-leb}
+use mir.Syntax.{Width, w64}
 use mir.Val.{Fits, SFits, toZ, ofZ, hbits}
 use mir.ValLaws.{toZ-ofZ}
 use Rattle.laws.proofs.Tests.{never, bool-cases}
 use Rattle.packets.specs.Ends.{after}
-use Rattle.dsqdata.specs.Metadata.{isTaxonomy}
 
 -- a signed result, as its bits are read again, at every width
 pub again : (w : Width) (z e : ℤ) → mag z < 2 ^ hbits w → z ≡ e → toZ w (ofZ w z) ≡ e
@@ -48,25 +47,6 @@ module _ (e : ℤ) (f : SFits w64 e) where
 
   pub nat-fits : ltZ (toZ w64 (ofZ w64 e)) (pos 0) ≡ false → Fits w64 (natAbs (toZ w64 (ofZ w64 e)) + 1)
   nat-fits t = rw (toZ-ofZ w64 e f) (pos-fits e (f .sfits) (rw (toZ-ofZ w64 e f) at t))
-
--- ---- taxonomy ids
-
-low-is : (t : ℤ) → ltZ t (pos 0) ≡ true → ltZ (negsuc 1) t ≡ isTaxonomy t
-low-is (pos n) h = absurd (let l = ltb-true n 0 h in let z : ⊥ = omega arith in z)
-low-is (negsuc zero) h = refl
-low-is (negsuc (suc n)) h = le-ltb (suc n) 1 (omega arith)
-
-high-is : (t : ℤ) → ltZ t (pos 0) ≡ false → ltZ (pos 0) t ≡ isTaxonomy t
-high-is (pos zero) h = refl
-high-is (pos (suc n)) h = lt-ltb 0 (suc n) (omega arith)
-high-is (negsuc n) h = never (sym h)
-
-module _ (t : ℤ) (f : SFits w32 t) where
-  pub taxonomy-low : ltZ (toZ w32 (ofZ w32 t)) (pos 0) ≡ true → ltZ (negsuc 1) (toZ w32 (ofZ w32 t)) ≡ isTaxonomy t
-  taxonomy-low h = rw (toZ-ofZ w32 t f) (low-is t (rw (toZ-ofZ w32 t f) at h))
-
-  pub taxonomy-high : ltZ (toZ w32 (ofZ w32 t)) (pos 0) ≡ false → ltZ (pos 0) (toZ w32 (ofZ w32 t)) ≡ isTaxonomy t
-  taxonomy-high h = rw (toZ-ofZ w32 t f) (high-is t (rw (toZ-ofZ w32 t f) at h))
 
 -- ---- orders
 

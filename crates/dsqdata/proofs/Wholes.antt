@@ -25,13 +25,13 @@ use Rattle.dsqdata.specs.declared.runs.Run.{Run}
 use Rattle.dsqdata.specs.declared.runs.Run.the-variants as R
 use Rattle.dsqdata.specs.declared.runs.Runs.{Runs}
 use Rattle.dsqdata.specs.declared.runs.Runs.the-variants as U
-use Rattle.dsqdata.specs.declared.metadata.Records.{Records}
-use Rattle.dsqdata.specs.declared.metadata.Records.the-variants as M
+use Rattle.dsqdata.specs.declared.records.Records.{Records}
+use Rattle.dsqdata.specs.declared.records.Records.the-variants as M
 use Rattle.dsqdata.specs.declared.ends.Part.{Part}
 use Rattle.dsqdata.specs.declared.ends.Part.the-variants as P
 use Rattle.dsqdata.specs.Header.{countOf, recordOf}
 use Rattle.dsqdata.specs.Ends.{endBefore, residuesAt}
-use Rattle.dsqdata.specs.Metadata.{nameAt, accessionAt, descriptionAt}
+use Rattle.dsqdata.specs.Records.{nameAt, accessionAt, descriptionAt}
 use Rattle.dsqdata.specs.Check.{sizeRules, startRules, tagRules, fileRules, headerRules, countRules, bodyRules, layoutRules, endsRules, rulesTo, rulesOfRun, runRulesTo, rulesOfRecord, statedRules, totalRules, behindRuns, restRules}
 use Rattle.dsqdata.specs.Scans.{runRead, runsTo, recordsTo}
 use Rattle.dsqdata.specs.Lookup.{partRules, startAt, lengthAt, partOf}

@@ -12,12 +12,13 @@ use Rattle.answers.specs.declared.Refusal.{Refusal}
 use Rattle.answers.specs.declared.Refusal.the-variants.{TooShort, WrongKind, OutOfRange, Leftover, BadOffsets, WrongTotals, WrongMagic, TagsDiffer, BadRun, BadMetadata, TooLarge}
 use Rattle.residues.specs.Alphabets.{isAlphabet}
 use Rattle.packets.specs.Runs.{wellFormed}
+use Rattle.metadata.specs.Record.{isGood}
 use Rattle.dsqdata.specs.declared.SetRecord.{SetRecord}
 use Rattle.dsqdata.specs.declared.SetAnswer.{SetAnswer}
 use Rattle.dsqdata.specs.declared.SetAnswer.the-variants.{Passed, Refused}
 use Rattle.dsqdata.specs.Header.{setMagic, magicOf, tagOf, alphabetOf, flagsOf, countOf, recordOf, bytesAfterHeader, packetsIn}
 use Rattle.dsqdata.specs.Ends.{metadataTable, packetTable, risesAt, meetsEnd, runAt, residuesAt}
-use Rattle.dsqdata.specs.Metadata.{textsAt, isGood, nameAt, accessionAt, descriptionAt}
+use Rattle.dsqdata.specs.Records.{textsAt, nameAt, accessionAt, descriptionAt}
 
 -- ---- the files
 

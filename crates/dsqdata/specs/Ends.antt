@@ -10,7 +10,8 @@ use lib.Signed.{ltZ}
 use Rattle.laws.specs.Places.{listTo}
 use Rattle.packets.specs.Runs.{unpacked}
 use Rattle.packets.specs.Ends.{after, between}
-use Rattle.dsqdata.specs.Header.{setSigned, countOf, bodyOf}
+use Rattle.metadata.specs.Fields.{setSigned}
+use Rattle.dsqdata.specs.Header.{countOf, bodyOf}
 
 -- After the index's 52 bytes stand, per sequence, two signed 8-byte ends: the metadata's, then the packets'.
 abbrev pub metadataTable : ℕ

@@ -2,24 +2,11 @@
 -- Assumes nothing.
 use mathlib.Core.List.{List}
 use Prim.Native.Nat.{ℕ, _-_, _/_}
-use lib.IntN.{ℤ}
 use lib.ListN.{length}
 use Rattle.laws.specs.Places.{listTo}
-use Rattle.fields.specs.Number.{Order, little, unsignedAt, signedAt}
 use Rattle.packets.specs.Positions.{byteOf}
+use Rattle.metadata.specs.Fields.{setField}
 use Rattle.dsqdata.specs.declared.SetRecord.{SetRecord}
-
--- The byte order of every integer of a set: all little-endian.
-abbrev pub setOrder : Order
-setOrder = little
-
--- The unsigned field of w bytes at a place of a set's file.
-unfoldable pub setField : ℕ → List ℕ → ℕ → ℕ
-setField w file at = unsignedAt setOrder w file at
-
--- The signed field of w bytes at a place of a set's file, in two's complement.
-unfoldable pub setSigned : ℕ → List ℕ → ℕ → ℤ
-setSigned w file at = signedAt setOrder w file at
 
 -- What every file of a set begins with.
 abbrev pub setMagic : ℕ

@@ -1,6 +1,6 @@
 pub mod Header
 pub mod Ends
-pub mod Metadata
+pub mod Records
 pub mod Check
 pub mod Scans
 pub mod Lookup

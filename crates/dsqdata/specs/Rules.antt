@@ -1,19 +1,19 @@
--- What document 01 asks of a set, of a metadata record and of a lookup, rule by rule.
--- proofs/SetRules.antt, proofs/MetadataRules.antt and proofs/LookupRules.antt show that the calls pass exactly where these rules hold.
+-- What document 01 asks of a set and of a lookup, rule by rule.
+-- proofs/SetRules.antt and proofs/LookupRules.antt show that the calls pass exactly where these rules hold.
 -- Assumes nothing.
 use mathlib.Core.Path.{_≡_}
-use mathlib.Core.Bool.{Bool, true, false}
 use mathlib.Core.Logic.{_⊎_}
 use mathlib.Core.List.{List}
 use Prim.Native.Nat.{ℕ, suc, _+_, _*_, _%_, _≤_, _<_}
-use lib.ListN.{length, getD}
-use lib.IntN.{ℤ, pos, negsuc}
+use lib.ListN.{length}
+use lib.IntN.{pos, negsuc}
 use lib.Signed.{_<ℤ_, _≤ℤ_}
 use Rattle.laws.specs.Places.{sumTo, largestTo}
 use Rattle.packets.specs.Ends.{lastPlace}
 use Rattle.packets.specs.Rules.{WellFormed}
+use Rattle.metadata.specs.Rules.{MetadataRule}
 use Rattle.dsqdata.specs.declared.SetRecord.{SetRecord}
-use Rattle.dsqdata.specs.Header.{setMagic, setSigned, magicOf, tagOf, alphabetOf, flagsOf, countOf, recordOf, bytesAfterHeader, packetsIn}
+use Rattle.dsqdata.specs.Header.{setMagic, magicOf, tagOf, alphabetOf, flagsOf, countOf, recordOf, bytesAfterHeader, packetsIn}
 use Rattle.dsqdata.specs.Ends.{metadataTable, packetTable, endBefore, runAt, residuesAt, metadataStart}
 
 -- Ends: before the first stands -1; each rises; the last is the body's last place; with none, the body is empty.
@@ -22,36 +22,6 @@ pub record EndsRule (index : List ℕ) (table n size : ℕ) : Type 0 where
   pub rises : (k : ℕ) → k < n → endBefore index table k <ℤ endBefore index table (suc k)
   pub last : endBefore index table n ≡ lastPlace size
   pub none : n ≡ 0 → size ≡ 0
-
--- ---- metadata
-
--- A text's byte is no NUL, which closes it; in a name or an accession none of 9 to 13 and 32, in a description not 10.
-abbrev pub TextByte : Bool → ℕ → Type 0
-TextByte true b = (b ≡ 0 → ⊥) × (9 ≤ b → b ≤ 13 → ⊥) × (b ≡ 32 → ⊥)
-TextByte false b = (b ≡ 0 → ⊥) × (b ≡ 10 → ⊥)
-
--- The text of the bytes from one place up to another is closed by the NUL there. The Bool tells a name or an accession from a description.
-pub record Text (name : Bool) (file : List ℕ) (from nul : ℕ) : Type 0 where
-  pub bytes : (k : ℕ) → from ≤ k → k < nul → TextByte name (getD file k 0)
-  pub closed : getD file nul 0 ≡ 0
-
--- A taxonomy id: -1 for unset, or at least 1.
-abbrev pub Taxonomy : ℤ → Type 0
-Taxonomy id = (id ≡ negsuc 0) ⊎ (pos 1 ≤ℤ id)
-
--- The bytes from one place up to, not including, another are a metadata record with texts of these lengths.
-pub record MetadataRule (file : List ℕ) (from to name accession description : ℕ) : Type 0 where
-  -- name, not empty
-  pub named : 0 < name
-  pub nameText : Text true file from (from + name)
-  -- accession
-  pub accessionText : Text true file (from + name + 1) (from + name + 1 + accession)
-  -- description
-  pub descriptionText : Text false file (from + name + 1 + accession + 1) (from + name + 1 + accession + 1 + description)
-  -- then a signed taxonomy id
-  pub taxonomy : Taxonomy (setSigned 4 file (from + name + 1 + accession + 1 + description + 1))
-  -- nothing more
-  pub whole : from + name + 1 + accession + 1 + description + 1 + 4 ≡ to
 
 -- ---- the set
 

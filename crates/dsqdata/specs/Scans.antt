@@ -10,10 +10,10 @@ use Rattle.dsqdata.specs.declared.runs.Run.{Run}
 use Rattle.dsqdata.specs.declared.runs.Run.the-variants as R
 use Rattle.dsqdata.specs.declared.runs.Runs.{Runs}
 use Rattle.dsqdata.specs.declared.runs.Runs.the-variants as U
-use Rattle.dsqdata.specs.declared.metadata.Records.{Records}
-use Rattle.dsqdata.specs.declared.metadata.Records.the-variants as M
+use Rattle.dsqdata.specs.declared.records.Records.{Records}
+use Rattle.dsqdata.specs.declared.records.Records.the-variants as M
 use Rattle.dsqdata.specs.Ends.{residuesAt}
-use Rattle.dsqdata.specs.Metadata.{nameAt, accessionAt, descriptionAt}
+use Rattle.dsqdata.specs.Records.{nameAt, accessionAt, descriptionAt}
 use Rattle.dsqdata.specs.Check.{rulesTo, rulesOfRun, runRulesTo, rulesOfRecord}
 
 -- One run: its residues, or the refusal of its first broken rule.

@@ -5,7 +5,8 @@ use answers::MOST_BYTES;
 use answers::Refusal;
 ghost use mathlib.Core.Path.{_≡_};
 ghost use Rattle.answers.specs.Limits.{checkedBy};
-ghost use Rattle.dsqdata.specs.Header.{setField, setSigned, recordOf, bytesAfterHeader};
+ghost use Rattle.metadata.specs.Fields.{setField, setSigned};
+ghost use Rattle.dsqdata.specs.Header.{recordOf, bytesAfterHeader};
 ghost use Rattle.dsqdata.specs.Check.{sizeRules, startRules, tagRules, fileRules, countRules, layoutRules};
 
 // The most sequences of a set.
@@ -26,13 +27,6 @@ pub(crate) fn field8(file: &[u8], at: usize) -> u64
     ensures { λ r. ⌜ r ≡ setField 8 (now (file .entry)) at ⌝ }
 {
     fields::le_u64(file, at)
-}
-
-// The signed field of four bytes at a place.
-pub(crate) fn signed4(file: &[u8], at: usize) -> i32
-    ensures { λ r. ⌜ r ≡ setSigned 4 (now (file .entry)) at ⌝ }
-{
-    fields::le_i32(file, at)
 }
 
 // The signed field of eight bytes at a place.

@@ -17,7 +17,7 @@ ghost use Rattle.dsqdata.specs.Lookup.{lookupOf};
 
 mod ends;
 mod header;
-mod metadata;
+mod records;
 mod runs;
 
 // The ten header fields of a set, in file order.
@@ -70,7 +70,7 @@ fn check_content(index: &[u8], metadata: &[u8], sequence: &[u8], set: SetRecord)
     match runs {
         Runs::Refused(r) => Checked::Refused(r),
         Runs::Totals(residues, longest) => {
-            metadata::check_rest(index, metadata, set, residues, longest)
+            records::check_rest(index, metadata, set, residues, longest)
         }
     }
 }

@@ -1,5 +1,5 @@
 -- `dsqdata::header::signed8`: the signed field in the order of a set. Assumes nothing.
-use Rattle.dsqdata.specs.Header.{setSigned}
+use Rattle.metadata.specs.Fields.{setSigned}
 use borrow.Author.Needs.{needs}
 use Rattle.dsqdata.proofs.header.signed8.Statement.{statement}
 use Rattle.dsqdata.proofs.header.signed8.Tie as tie

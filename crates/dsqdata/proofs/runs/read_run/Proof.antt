@@ -11,7 +11,8 @@ use Rattle.packets.specs.declared.RunState.the-variants.{Empty}
 use Rattle.packets.specs.Runs.{wellFormed, unpacked}
 use Rattle.packets.specs.Steps.{runSteps}
 use Rattle.packets.proofs.Codes.{residues-most}
-use Rattle.dsqdata.specs.Header.{setField, packetAt, bodyOf}
+use Rattle.metadata.specs.Fields.{setField}
+use Rattle.dsqdata.specs.Header.{packetAt, bodyOf}
 use Rattle.dsqdata.specs.Check.{rulesOfRun}
 use Rattle.dsqdata.specs.Scans.{runRead}
 use Rattle.dsqdata.proofs.Bodies.{state-next, count-next, state-done, count-done, state-over}

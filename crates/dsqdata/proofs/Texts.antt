@@ -1,0 +1,43 @@
+-- The texts of one number's metadata record, and its rules. Assumes nothing.
+use mathlib.Core.Path.{_≡_, sym, _∙_}
+use mathlib.Core.Bool.{true}
+use mathlib.Core.List.{List}
+use Prim.Native.Nat.{ℕ, suc, _+_}
+use Rattle.laws.specs.Rules.{AllHold}
+use Rattle.answers.specs.Limits.{checkedBy}
+use Rattle.answers.specs.declared.Refusal.the-variants.{BadMetadata}
+use Rattle.answers.specs.declared.Checked.the-variants.{Refused}
+use Rattle.packets.specs.Ends.{after}
+use Rattle.metadata.specs.declared.Texts.{Texts}
+use Rattle.metadata.specs.declared.Texts.the-variants.{Lengths, Bad}
+use Rattle.metadata.specs.Record.{textsIn, isGood, nameLength, accessionLength, descriptionLength}
+use Rattle.dsqdata.specs.Ends.{metadataTable, endBefore, metadataStart}
+use Rattle.dsqdata.specs.Records.{textsAt}
+use Rattle.dsqdata.specs.Check.{rulesOfRecord}
+
+pub texts-are : (index metadata : List ℕ) (k from to : ℕ) (r x : Texts) → from ≡ metadataStart index k
+    → to ≡ after (endBefore index metadataTable (suc k)) → r ≡ textsIn metadata from (8 + to) → r ≡ x → textsAt index metadata k ≡ x
+unfolding textsAt
+texts-are index metadata k from to r x e f p q = rw (← e, ← f) (sym p ∙ q)
+
+module _ {m : Texts} {n a d : ℕ} (g : m ≡ Lengths n a d) where
+  pub texts-good : isGood m ≡ true
+  texts-good = rw g
+
+  pub texts-name : n ≡ nameLength m
+  texts-name = rw g
+
+  pub texts-accession : a ≡ accessionLength m
+  texts-accession = rw g
+
+  pub texts-description : d ≡ descriptionLength m
+  texts-description = rw g
+
+module _ (index metadata : List ℕ) (k : ℕ) where
+  pub record-holds : {n a d : ℕ} → textsAt index metadata k ≡ Lengths n a d → AllHold (rulesOfRecord index metadata k)
+  unfolding rulesOfRecord
+  record-holds g = (texts-good g, tt)
+
+  pub record-refused : textsAt index metadata k ≡ Bad → Refused BadMetadata ≡ checkedBy (rulesOfRecord index metadata k)
+  unfolding rulesOfRecord
+  record-refused g = rw g

@@ -1,0 +1,147 @@
+-- `dsqdata::records::check_records`: the records passed keep their rules, and the lengths of their texts are compared. Assumes nothing.
+use mathlib.Core.Path.{_≡_, refl, sym, ap, _∙_}
+use Prim.Native.Nat.{ℕ, suc, _+_, _-_, _≤_}
+use native.Mathlib.Omega.{arith}
+use native.Mathlib.Numerals.{add-one}
+use denote.Ref.{now}
+use lib.IntN.{ℤ}
+use Rattle.laws.specs.Places.{largestTo}
+use Rattle.laws.specs.Rules.{AllHold}
+use Rattle.laws.proofs.Places.{largest-more}
+use Rattle.laws.proofs.Rules.{verdict-passes}
+use Rattle.packets.specs.Ends.{after}
+use Rattle.answers.specs.declared.Refusal.the-variants.{BadMetadata}
+use Rattle.metadata.specs.declared.Texts.the-variants.{Lengths, Bad}
+use Rattle.dsqdata.specs.declared.records.Records.the-variants.{Longest, Refused}
+use Rattle.dsqdata.specs.Header.{bytesAfterHeader}
+use Rattle.dsqdata.specs.Ends.{metadataTable, endBefore, metadataStart}
+use Rattle.dsqdata.specs.Records.{textsAt, nameAt, accessionAt, descriptionAt}
+use Rattle.dsqdata.specs.Check.{rulesTo, rulesOfRecord}
+use Rattle.dsqdata.specs.Scans.{recordsTo}
+use Rattle.dsqdata.proofs.EachRule.{rules-more, rules-done, rules-refused}
+use Rattle.dsqdata.proofs.Rising.{end-zero, end-after, ends-rule, ends-within}
+use Rattle.dsqdata.proofs.Texts.{texts-are, texts-name, texts-accession, texts-description, record-holds, record-refused}
+use borrow.Author.Needs.{needs}
+use Rattle.dsqdata.proofs.records.check_records.Statement.{statement}
+use Rattle.dsqdata.proofs.records.check_records.Tie as tie
+
+abbrev Inv-loop : tie.InvT-loop
+Inv-loop index metadata n name₀ accession₀ description₀ from₀ k₀ name accession description from k = (k ≤ n)
+    × (from .0 ≡ metadataStart index k)
+    × (name ≡ largestTo (nameAt index metadata) k)
+    × (accession ≡ largestTo (accessionAt index metadata) k)
+    × (description ≡ largestTo (descriptionAt index metadata) k)
+    × AllHold (rulesTo (rulesOfRecord index metadata) k)
+
+abbrev μ-loop : tie.MeasureT-loop
+μ-loop index metadata n name₀ accession₀ description₀ from₀ k₀ name accession description from k = n - k
+
+loop-holds : tie.Need-loop-holds Inv-loop μ-loop
+loop-holds c = let i = now ((c .before .before .args) .index) in (omega arith, sym (ap (λ (z : ℤ). 8 + after z) (end-zero i metadataTable 0 refl)), refl, refl, refl, tt)
+
+mul-signed8 : tie.Need-mul-signed8 Inv-loop μ-loop
+mul-signed8 c = search needs
+
+add-signed8 : tie.Need-add-signed8 Inv-loop μ-loop
+add-signed8 c = search needs
+
+signed8-requires : tie.Need-signed8-requires Inv-loop μ-loop
+signed8-requires c κs = search needs
+
+after-end-requires : tie.Need-after-end-requires Inv-loop μ-loop
+after-end-requires c κs = search needs
+
+add-t18 : tie.Need-add-t18 Inv-loop μ-loop
+add-t18 c = let a = (c .before .before .before .before .before .before .args) in
+    let l = (c .before .before .before .loop) in
+    let i = now (a .index) in
+    let m = now (a .metadata) in
+    let to = end-after i metadataTable (l .k) _ _ ((c .after-end) .ensures) ((c .before .signed8) .ok) ((c .before .signed8) .ensures) in
+    let w = ends-within i metadataTable (a .n) (bytesAfterHeader m) (ends-rule i metadataTable (a .n) (bytesAfterHeader m) ((c .before .before .before .before .before .before .pre) .1)) (suc (l .k)) (omega arith) in
+    omega (arith, to)
+
+read-record-requires : tie.Need-read-record-requires Inv-loop μ-loop
+read-record-requires c κs = search needs
+
+enum-known-a : tie.Need-enum-known-a Inv-loop μ-loop
+enum-known-a c = search needs
+
+enum-told : tie.Need-enum-told Inv-loop μ-loop
+enum-told c = search needs
+
+returns : tie.Need-returns Inv-loop μ-loop
+unfolding recordsTo
+returns c = let a = (c .before .before .before .before .before .before .before .before .before .args) in
+    let l = (c .before .before .before .before .before .before .loop) in
+    let i = now (a .index) in
+    let m = now (a .metadata) in
+    let to = end-after i metadataTable (l .k) _ _ ((c .before .before .before .after-end) .ensures) ((c .before .before .before .before .signed8) .ok) ((c .before .before .before .before .signed8) .ensures) in
+    let g : textsAt i m (l .k) ≡ Bad = texts-are i m (l .k) (l .from .0) _ _ _ (l .inv .1) to ((c .before .before .read-record) .ensures) ((c .enum-told) .given .1) in
+    sym (rules-refused (rulesOfRecord i m) (a .n) (l .k) _ BadMetadata (omega arith) (l .inv .5) (record-refused i m (l .k) g) refl Refused (Longest (largestTo (nameAt i m) (a .n)) (largestTo (accessionAt i m) (a .n)) (largestTo (descriptionAt i m) (a .n))))
+
+larger-requires : tie.Need-larger-requires Inv-loop μ-loop
+larger-requires c κs = search needs
+
+larger-requires-2 : tie.Need-larger-requires-2 Inv-loop μ-loop
+larger-requires-2 c κs = search needs
+
+larger-requires-3 : tie.Need-larger-requires-3 Inv-loop μ-loop
+larger-requires-3 c κs = search needs
+
+add-k : tie.Need-add-k Inv-loop μ-loop
+add-k c = search needs
+
+loop-less : tie.Need-loop-less Inv-loop μ-loop
+loop-less c = search needs
+
+loop-again : tie.Need-loop-again Inv-loop μ-loop
+loop-again c = let a = (c .before .before .before .before .before .before .before .before .before .before .before .before .before .args) in
+    let l = (c .before .before .before .before .before .before .before .before .before .before .loop) in
+    let i = now (a .index) in
+    let m = now (a .metadata) in
+    let to = end-after i metadataTable (l .k) _ _ ((c .before .before .before .before .before .before .before .after-end) .ensures) ((c .before .before .before .before .before .before .before .before .signed8) .ok) ((c .before .before .before .before .before .before .before .before .signed8) .ensures) in
+    let g : textsAt i m (l .k) ≡ Lengths _ _ _ = texts-are i m (l .k) (l .from .0) _ _ _ (l .inv .1) to ((c .before .before .before .before .before .before .read-record) .ensures) ((c .before .before .before .before .a) .given .1) in (
+      omega arith,
+      ap (λ (x : ℕ). 8 + x) (to ∙ ap (λ (x : ℕ). after (endBefore i metadataTable x)) (sym (add-one (l .k)))),
+      (c .before .before .larger) .ensures ∙ largest-more (nameAt i m) (l .k) _ _ (l .inv .2) (texts-name g),
+      (c .before .larger2) .ensures ∙ largest-more (accessionAt i m) (l .k) _ _ (l .inv .3) (texts-accession g),
+      (c .larger3) .ensures ∙ largest-more (descriptionAt i m) (l .k) _ _ (l .inv .4) (texts-description g),
+      rules-more (rulesOfRecord i m) (l .k) (l .inv .5) (record-holds i m (l .k) g),
+    )
+
+returns-2 : tie.Need-returns-2 Inv-loop μ-loop
+unfolding recordsTo
+returns-2 c = let a = (c .before .before .before .before .args) in
+    let l = (c .before .loop) in
+    let i = now (a .index) in
+    let m = now (a .metadata) in
+    let n : l .k ≡ a .n = omega arith in
+    let x : l .name ≡ largestTo (nameAt i m) (a .n) = l .inv .2 ∙ ap (largestTo (nameAt i m)) n in
+    let y : l .accession ≡ largestTo (accessionAt i m) (a .n) = l .inv .3 ∙ ap (largestTo (accessionAt i m)) n in
+    let z : l .description ≡ largestTo (descriptionAt i m) (a .n) = l .inv .4 ∙ ap (largestTo (descriptionAt i m)) n in
+    rw (x, y, z) (sym (verdict-passes Refused (Longest (largestTo (nameAt i m) (a .n)) (largestTo (accessionAt i m) (a .n)) (largestTo (descriptionAt i m) (a .n))) (rulesTo (rulesOfRecord i m) (a .n))
+    (rules-done (rulesOfRecord i m) (l .k) (a .n) (l .inv .0) ((c .loop-test) .left) (l .inv .5))))
+
+pub check-records-spec : {M : Type 1} → statement M
+check-records-spec =
+    tie.close
+    (tie.spec
+    Inv-loop
+    μ-loop
+    loop-holds
+    mul-signed8
+    add-signed8
+    signed8-requires
+    after-end-requires
+    add-t18
+    read-record-requires
+    enum-known-a
+    enum-told
+    returns
+    larger-requires
+    larger-requires-2
+    larger-requires-3
+    add-k
+    loop-less
+    loop-again
+    returns-2)
