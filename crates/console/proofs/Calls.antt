@@ -13,7 +13,7 @@ use Rattle.packets.specs.Runs.{unpacked}
 use Rattle.packets.specs.Bytes.{packetsOf}
 use Rattle.answers.specs.Numbers.{numberOf}
 use Rattle.runs.specs.Answers.{packRules, packAnswer, packNumber, unpackNumber}
-use Rattle.runs.specs.Bytes.{packBytesAnswer, bytesAfter, unpackBytesRules, unpackBytesAnswer, codesAfterBytes}
+use Rattle.byte_runs.specs.Bytes.{packBytesAnswer, bytesAfter, unpackBytesRules, unpackBytesAnswer, codesAfterBytes}
 use Rattle.runs.specs.declared.PackAnswer.{PackAnswer}
 use Rattle.runs.specs.declared.UnpackAnswer.{UnpackAnswer}
 use Rattle.runs.specs.declared.PackAnswer.the-variants as P

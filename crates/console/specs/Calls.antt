@@ -12,7 +12,7 @@ use Rattle.packets.specs.Packing.{run}
 use Rattle.packets.specs.Runs.{unpacked}
 use Rattle.packets.specs.Bytes.{packetsOf, bytesOf}
 use Rattle.runs.specs.Answers.{packRules, packValues, ifPacked, unpackedBy, unpackValues, ifUnpacked}
-use Rattle.runs.specs.Bytes.{unpackBytesRules}
+use Rattle.byte_runs.specs.Bytes.{unpackBytesRules}
 use Rattle.runs.specs.declared.PackAnswer.{PackAnswer}
 use Rattle.runs.specs.declared.PackAnswer.the-variants.{Packed, Refused}
 use Rattle.runs.specs.declared.UnpackAnswer.{UnpackAnswer}

@@ -38,7 +38,7 @@ pub extern "C" fn gull_pack(
         };
         return answers::number(r);
     }
-    match runs::pack_bytes(alphabet, codes, buffer, PacketPos(place)) {
+    match byte_runs::pack_bytes(alphabet, codes, buffer, PacketPos(place)) {
         PackAnswer::Refused(r) => answers::number(r),
         PackAnswer::Packed { packets, residues } => {
             let values = [packets, residues];
@@ -61,13 +61,16 @@ pub extern "C" fn gull_unpack(
     ensures results { λ _. ⌜ now (results .exit) ≡ unpackResults (consoleUnpack alphabet (now (packets .entry)) (length (now (codes .entry))) (length (now (results .entry)))) (now (results .entry)) ⌝ }
 {
     if results.len() < 16 {
-        let UnpackAnswer::Refused(r) = runs::unpack_bytes_answer(alphabet, packets, codes.len())
-        else {
+        let UnpackAnswer::Refused(r) = byte_runs::unpack_bytes_answer(
+            alphabet,
+            packets,
+            codes.len(),
+        ) else {
             return 13;
         };
         return answers::number(r);
     }
-    match runs::unpack_bytes(alphabet, packets, codes) {
+    match byte_runs::unpack_bytes(alphabet, packets, codes) {
         UnpackAnswer::Refused(r) => answers::number(r),
         UnpackAnswer::Unpacked { packets, residues } => {
             let counts = [packets, residues];

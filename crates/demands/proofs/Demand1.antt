@@ -11,6 +11,7 @@ use lib.Dec.{leb, ltb}
 use lib.ListN.{length, getD}
 use borrow.Author.Tests.{ltb-true}
 use Rattle.laws.specs.Writing.{writtenAt}
+use Rattle.answers.specs.Limits.{checkedBy}
 use Rattle.answers.specs.Numbers.{numberOf, checkedNumber}
 use Rattle.answers.specs.declared.Refusal.{Refusal}
 use Rattle.answers.specs.declared.Refusal.the-variants as R
@@ -20,8 +21,8 @@ use Rattle.packets.specs.Positions.{byteOf}
 use Rattle.packets.specs.Packing.{run}
 use Rattle.packets.specs.Runs.{unpacked}
 use Rattle.packets.specs.Bytes.{packetsOf, bytesOf}
-use Rattle.runs.specs.Answers.{packAnswer, packNumber, packValues, ifPacked, packetsAfter, unpackAnswer, unpackNumber, unpackValues, ifUnpacked, codesAfter}
-use Rattle.runs.specs.Bytes.{packBytesAnswer, bytesAfter, unpackBytesAnswer, codesAfterBytes}
+use Rattle.runs.specs.Answers.{packRules, packAnswer, packNumber, packValues, ifPacked, packetsAfter, unpackAnswer, unpackNumber, unpackValues, ifUnpacked, codesAfter}
+use Rattle.byte_runs.specs.Bytes.{packBytesAnswer, bytesAfter, unpackBytesAnswer, codesAfterBytes}
 use Rattle.runs.specs.declared.PackAnswer.{PackAnswer}
 use Rattle.runs.specs.declared.PackAnswer.the-variants as Pack
 use Rattle.runs.specs.declared.UnpackAnswer.{UnpackAnswer}
@@ -199,6 +200,10 @@ results-kept number values results a n = rw (a .alone n) (put-nothing results)
 -- ---- packing and unpacking
 
 module _ (alphabet : ℕ) (codes : List ℕ) where
+  -- `check_pack`, which returns no values
+  pub check-pack-call : (room at : ℕ) → Numbered (checkedNumber (checkedBy (packRules alphabet codes room at)))
+  check-pack-call room at = checked-answered (checkedBy (packRules alphabet codes room at))
+
   -- `pack_answer`
   pub pack-answer-call : (room at : ℕ) →
       let answer = packAnswer alphabet codes room at in

@@ -21,13 +21,14 @@ use Rattle.packets.proofs.Rules.{rules-formed}
 use Rattle.packets.proofs.Bytes.{length-bytes, packets-bytes}
 use Rattle.packets.proofs.Packing.{run-some}
 use Rattle.runs.specs.Answers.{packAnswer, packNumber, packValues, unpackAnswer, unpackNumber, unpackValues}
-use Rattle.runs.specs.Bytes.{packBytesAnswer, unpackBytesAnswer}
+use Rattle.byte_runs.specs.Bytes.{packBytesAnswer, unpackBytesAnswer}
 use Rattle.runs.specs.Rules.{Packs, Unpacks}
 use Rattle.runs.specs.declared.PackAnswer.{PackAnswer}
 use Rattle.runs.specs.declared.PackAnswer.the-variants as Pack
 use Rattle.runs.specs.declared.UnpackAnswer.{UnpackAnswer}
 use Rattle.runs.specs.declared.UnpackAnswer.the-variants as Unpack
-use Rattle.runs.proofs.Answers.{MayPack, MayUnpack, pack-done, packed-may, packets-written, bytes-written, unpack-as, unpack-bytes-as, run-done, codes-written, codes-bytes-written}
+use Rattle.runs.proofs.Answers.{MayPack, MayUnpack, pack-done, packed-may, packets-written, unpack-as, run-done, codes-written}
+use Rattle.byte_runs.proofs.Answers.{bytes-written, unpack-bytes-as, codes-bytes-written}
 use Rattle.runs.proofs.Rules.{rules-pack, rules-unpack}
 use Rattle.demands.specs.Packets.{packetsPacked, bytesPacked, codesUnpacked, PacksAndUnpacks, PacksAndUnpacksBytes, UnpacksAndPacks}
 

@@ -7,11 +7,12 @@ use Prim.Native.Nat.{ℕ}
 use lib.Dec.{leb}
 use lib.ListN.{length}
 use borrow.Author.Tests.{lt-leb}
+use Rattle.answers.specs.Limits.{checkedBy}
 use Rattle.answers.specs.Numbers.{checkedNumber}
 use Rattle.answers.specs.declared.Refusal.the-variants.{TooLarge}
 use Rattle.answers.specs.declared.Checked.the-variants as Check
-use Rattle.runs.specs.Answers.{packAnswer, packNumber, unpackAnswer, unpackNumber}
-use Rattle.runs.specs.Bytes.{packBytesAnswer, unpackBytesAnswer}
+use Rattle.runs.specs.Answers.{packRules, packAnswer, packNumber, unpackAnswer, unpackNumber}
+use Rattle.byte_runs.specs.Bytes.{packBytesAnswer, unpackBytesAnswer}
 use Rattle.volume.specs.Volume.{volumeRules, volumeAnswer, volumeNumber}
 use Rattle.sequence.specs.Sequence.{decodeRules, decodeAnswer, decodeNumber}
 use Rattle.dsqdata.specs.Check.{sizeRules, fileRules, setRules, setCheck, setNumber}
@@ -32,6 +33,9 @@ not-fit bytes h = lt-leb (length bytes) 2147483647 h
 -- ---- packing and unpacking
 
 module _ (alphabet : ℕ) where
+  pub check-pack-large : (codes : List ℕ) (room at : ℕ) → LargeBytes codes → checkedNumber (checkedBy (packRules alphabet codes room at)) ≡ 22
+  check-pack-large codes room at h = rw (not-fit codes h)
+
   pub pack-large : (codes : List ℕ) (room at : ℕ) → LargeBytes codes → packNumber (packAnswer alphabet codes room at) ≡ 22
   unfolding packAnswer
   pack-large codes room at h = rw (not-fit codes h)

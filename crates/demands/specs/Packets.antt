@@ -9,7 +9,7 @@ use Rattle.packets.specs.Positions.{byteOf}
 use Rattle.packets.specs.Packing.{run}
 use Rattle.packets.specs.Runs.{unpacked}
 use Rattle.runs.specs.Answers.{packAnswer, packNumber, packValues, packetsAfter, unpackAnswer, unpackNumber, unpackValues, codesAfter}
-use Rattle.runs.specs.Bytes.{packBytesAnswer, bytesAfter, unpackBytesAnswer, codesAfterBytes}
+use Rattle.byte_runs.specs.Bytes.{packBytesAnswer, bytesAfter, unpackBytesAnswer, codesAfterBytes}
 
 -- The run's packets in the buffer, after packing.
 abbrev pub packetsPacked : ℕ → List ℕ → List ℕ → ℕ → List ℕ

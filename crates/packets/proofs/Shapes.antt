@@ -169,6 +169,15 @@ unpacked-end ps i h = rw (drop-of-length-le ps {i = i} h) unpacked-nil
 pub count-from : (ps : List ℕ) (i : ℕ) → i < length ps → length (unpacked (drop i ps)) ≡ length (residues (getD ps i 0)) + length (unpacked (drop (i + 1) ps))
 count-from ps i h = ap length (unpacked-from ps i h) ∙ length-append (residues (getD ps i 0)) (unpacked (drop (i + 1) ps))
 
+-- a packet that may stand before the last: as many residues as codes
+pub count-inner : (a : ℕ) (ps : List ℕ) (i : ℕ) → i < length ps → inner a (getD ps i 0) ≡ true
+    → length (unpacked (drop i ps)) ≡ length (codesIn (getD ps i 0)) + length (unpacked (drop (i + 1) ps))
+count-inner a ps i h e = count-from ps i h ∙ ap (λ (n : ℕ). n + length (unpacked (drop (i + 1) ps))) (ap length (inner-codes a (getD ps i 0) e))
+
+-- the last packet
+pub count-last : (ps : List ℕ) (i : ℕ) → i + 1 ≡ length ps → length (unpacked (drop i ps)) ≡ length (residues (getD ps i 0))
+count-last ps i h = count-from ps i (omega arith) ∙ omega (arith, ap length (unpacked-end ps (i + 1) (omega arith)))
+
 -- What is no well-formed run: no packets, or a packet before the last that may not stand there.
 module _ (a : ℕ) (ps : List ℕ) where
   pub none-not : length ps ≡ 0 → wellFormed a ps ≡ false

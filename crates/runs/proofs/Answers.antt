@@ -2,27 +2,24 @@
 use mathlib.Core.Path.{_≡_}
 use mathlib.Core.Bool.{true, false}
 use mathlib.Core.List.{List, [], _∷_}
-use Prim.Native.Nat.{ℕ, _+_, _%_, _≤_, _<_}
+use Prim.Native.Nat.{ℕ, _+_, _≤_, _<_}
 use native.Mathlib.Omega.{arith}
 use lib.ListN.{length}
-use borrow.Author.Tests.{le-leb, lt-leb, leb-true, eq-eqb, ne-eqb, eqb-true}
+use borrow.Author.Tests.{le-leb, lt-leb, leb-true}
 use Rattle.laws.specs.Rules.{Rule, verdict, AllHold}
 use Rattle.laws.specs.Writing.{writtenAt}
 use Rattle.laws.proofs.Tests.{cond-passed}
 use Rattle.laws.proofs.Rules.{verdict-passes}
 use Rattle.answers.specs.Limits.{checkedBy}
 use Rattle.answers.specs.declared.Refusal.{Refusal}
-use Rattle.answers.specs.declared.Refusal.the-variants.{TooLarge, TooShort, WrongKind, BadRun, NoRoom}
+use Rattle.answers.specs.declared.Refusal.the-variants.{TooLarge, WrongKind, BadRun, NoRoom}
 use Rattle.answers.specs.declared.Checked.{Checked}
 use Rattle.answers.specs.declared.Checked.the-variants as Check
 use Rattle.answers.proofs.Checks.{refused-first, all-hold}
 use Rattle.residues.specs.Alphabets.{isAlphabet, validCodes}
-use Rattle.packets.specs.Positions.{byteOf}
 use Rattle.packets.specs.Packing.{run}
 use Rattle.packets.specs.Runs.{wellFormed, unpacked}
-use Rattle.packets.specs.Bytes.{packetsOf, bytesOf}
 use Rattle.runs.specs.Answers.{packRules, packAnswer, packetsAfter, runRules, unpackRules, unpackedBy, unpackAnswer, codesAfter}
-use Rattle.runs.specs.Bytes.{packBytesAnswer, bytesAfter, unpackBytesRules, unpackBytesAnswer, codesAfterBytes}
 use Rattle.runs.specs.declared.PackAnswer.{PackAnswer}
 use Rattle.runs.specs.declared.PackAnswer.the-variants as Pack
 use Rattle.runs.specs.declared.UnpackAnswer.{UnpackAnswer}
@@ -44,7 +41,7 @@ packed-holds done n l (r ∷ rs) e =
     let p = cond-passed (r .holds) (λ q. let z : _≡_ {A = ℕ} 0 1 = cc in omega arith) e in
     (p .0, packed-holds done n l rs (p .1))
 
-unpacked-holds : (done : UnpackAnswer) (n l : ℕ) (rs : List (Rule Refusal)) → verdict Unpack.Refused done rs ≡ Unpack.Unpacked n l → AllHold rs
+pub unpacked-holds : (done : UnpackAnswer) (n l : ℕ) (rs : List (Rule Refusal)) → verdict Unpack.Refused done rs ≡ Unpack.Unpacked n l → AllHold rs
 unpacked-holds done n l [] e = tt
 unpacked-holds done n l (r ∷ rs) e =
     let p = cond-passed (r .holds) (λ q. let z : _≡_ {A = ℕ} 0 1 = cc in omega arith) e in
@@ -88,16 +85,6 @@ module _ (a : ℕ) (codes packets : List ℕ) (place : ℕ) where
   pub packets-written : (n l : ℕ) → packAnswer a codes (length packets) place ≡ Pack.Packed n l → packetsAfter a codes packets place ≡ writtenAt place (run a codes) packets
   unfolding packetsAfter
   packets-written n l e = rw e
-
-module _ (a : ℕ) (codes bytes : List ℕ) (place : ℕ) where
-  pub bytes-kept : (r : Refusal) → packBytesAnswer a codes bytes place ≡ Pack.Refused r → bytesAfter a codes bytes place ≡ bytes
-  unfolding bytesAfter
-  bytes-kept r e = rw e
-
-  pub bytes-written : (n l : ℕ) → packBytesAnswer a codes bytes place ≡ Pack.Packed n l
-      → bytesAfter a codes bytes place ≡ writtenAt (byteOf 0 place) (bytesOf (run a codes)) bytes
-  unfolding bytesAfter
-  bytes-written n l e = rw e
 
 -- ---- unpacking
 
@@ -143,26 +130,6 @@ module _ (a : ℕ) (packets : List ℕ) (room : ℕ) where
       let h = unpacked-holds (Unpack.Unpacked (length packets) (length (unpacked packets))) n l (unpackRules a packets room) e in
       (leb-true (length packets) 536870912 (h .0), may-unpack (h .1))
 
-module _ (a : ℕ) (bytes : List ℕ) (room : ℕ) where
-  pub unpack-bytes-large : 2147483647 < length bytes → unpackBytesAnswer a bytes room ≡ Unpack.Refused TooLarge
-  unfolding unpackBytesAnswer
-  unpack-bytes-large h = rw (lt-leb (length bytes) 2147483647 h)
-
-  pub unpack-bytes-short : length bytes ≤ 2147483647 → (length bytes % 4 ≡ 0 → ⊥) → unpackBytesAnswer a bytes room ≡ Unpack.Refused TooShort
-  unfolding unpackBytesAnswer
-  unpack-bytes-short h n = rw (le-leb (length bytes) 2147483647 h, ne-eqb (length bytes % 4) 0 n)
-
-  pub unpack-bytes-as : length bytes ≤ 2147483647 → length bytes % 4 ≡ 0 → unpackBytesAnswer a bytes room ≡ RunAnswer a (packetsOf bytes) room
-  unfolding unpackBytesAnswer
-  unpack-bytes-as h n = rw (le-leb (length bytes) 2147483647 h, eq-eqb (length bytes % 4) 0 n)
-
-  pub unpacked-bytes-may : (n l : ℕ) → unpackBytesAnswer a bytes room ≡ Unpack.Unpacked n l
-      → (length bytes ≤ 2147483647) × (length bytes % 4 ≡ 0) × MayUnpack a (packetsOf bytes) room
-  unfolding unpackBytesAnswer
-  unpacked-bytes-may n l e =
-      let h = unpacked-holds (Unpack.Unpacked (length (packetsOf bytes)) (length (unpacked (packetsOf bytes)))) n l (unpackBytesRules a bytes room) e in
-      (leb-true (length bytes) 2147483647 (h .0), eqb-true (length bytes % 4) 0 (h .1 .0), may-unpack a (packetsOf bytes) room (h .1 .1))
-
 -- what the output holds after
 module _ (a : ℕ) (packets out : List ℕ) where
   pub codes-kept : (r : Refusal) → unpackAnswer a packets (length out) ≡ Unpack.Refused r → codesAfter a packets out ≡ out
@@ -172,13 +139,3 @@ module _ (a : ℕ) (packets out : List ℕ) where
   pub codes-written : (n l : ℕ) → unpackAnswer a packets (length out) ≡ Unpack.Unpacked n l → codesAfter a packets out ≡ writtenAt 0 (unpacked packets) out
   unfolding codesAfter
   codes-written n l e = rw e
-
-module _ (a : ℕ) (bytes out : List ℕ) where
-  pub codes-bytes-kept : (r : Refusal) → unpackBytesAnswer a bytes (length out) ≡ Unpack.Refused r → codesAfterBytes a bytes out ≡ out
-  unfolding codesAfterBytes
-  codes-bytes-kept r e = rw e
-
-  pub codes-bytes-written : (n l : ℕ) → unpackBytesAnswer a bytes (length out) ≡ Unpack.Unpacked n l
-      → codesAfterBytes a bytes out ≡ writtenAt 0 (unpacked (packetsOf bytes)) out
-  unfolding codesAfterBytes
-  codes-bytes-written n l e = rw e

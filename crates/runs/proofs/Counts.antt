@@ -1,4 +1,4 @@
--- The residues of a well-formed run, counted and written packet by packet. Assumes nothing.
+-- The residues of a well-formed run, written packet by packet. Assumes nothing.
 use mathlib.Core.Path.{_≡_, refl, sym, ap, _∙_}
 use mathlib.Core.Bool.{true}
 use mathlib.Core.List.{List, [], _++_}
@@ -13,17 +13,7 @@ use Rattle.laws.proofs.Writing.{paste-whole, paste-part, rest-part}
 use Rattle.packets.specs.Runs.{codesIn, residues, wellFormed, unpacked}
 use Rattle.packets.specs.Decoded.{codesPut, residuesPut}
 use Rattle.packets.proofs.Codes.{codes-put, residues-put}
-use Rattle.packets.proofs.Shapes.{inner-codes, well-inner, unpacked-from, unpacked-end, count-from}
-
--- a packet before the last: as many residues as codes
-pub count-inner : (a : ℕ) (ps : List ℕ) → wellFormed a ps ≡ true → (i : ℕ) → i + 1 < length ps
-    → length (unpacked (drop i ps)) ≡ length (codesIn (getD ps i 0)) + length (unpacked (drop (i + 1) ps))
-count-inner a ps e i h =
-    count-from ps i (omega arith) ∙ ap (λ (n : ℕ). n + length (unpacked (drop (i + 1) ps))) (ap length (inner-codes a (getD ps i 0) (well-inner a ps e i h)))
-
--- the last packet
-pub count-last : (ps : List ℕ) (i : ℕ) → i + 1 ≡ length ps → length (unpacked (drop i ps)) ≡ length (residues (getD ps i 0))
-count-last ps i h = count-from ps i (omega arith) ∙ omega (arith, ap length (unpacked-end ps (i + 1) (omega arith)))
+use Rattle.packets.proofs.Shapes.{inner-codes, well-inner, unpacked-from, unpacked-end}
 
 -- the codes, or the residues, of a packet written from a place on
 part-length : (out : List ℕ) (at : ℕ) → length (midOf at (length out - at) out) ≡ length out - at

@@ -11,15 +11,13 @@ use Rattle.laws.proofs.Digits.{below-at, below-all}
 use Rattle.residues.specs.Alphabets.{isAlphabet, codeLimit}
 use Rattle.packets.specs.Packing.{run}
 use Rattle.packets.specs.Runs.{wellFormed, unpacked}
-use Rattle.packets.specs.Bytes.{packetsOf}
 use Rattle.packets.proofs.Packing.{limit-some}
 use Rattle.packets.proofs.Rules.{formed-rules, rules-formed}
 use Rattle.runs.specs.Answers.{packAnswer, unpackAnswer}
-use Rattle.runs.specs.Bytes.{unpackBytesAnswer}
-use Rattle.runs.specs.Rules.{Packs, RunUnpacks, Unpacks, UnpacksBytes}
+use Rattle.runs.specs.Rules.{Packs, RunUnpacks, Unpacks}
 use Rattle.runs.specs.declared.PackAnswer.the-variants as Pack
 use Rattle.runs.specs.declared.UnpackAnswer.the-variants as Unpack
-use Rattle.runs.proofs.Answers.{MayPack, pack-done, packed-may, MayUnpack, unpack-as, unpack-bytes-as, run-done, unpacked-may, unpacked-bytes-may}
+use Rattle.runs.proofs.Answers.{MayPack, pack-done, packed-may, MayUnpack, unpack-as, run-done, unpacked-may}
 
 known : (a : ℕ) → isAlphabet a ≡ true → (1 ≤ a) × (a ≤ 3)
 known a e = let p = both-pass (leb 1 a) (leb a 3) e in (leb-true 1 a (p .0), leb-true a 3 (p .1))
@@ -56,15 +54,3 @@ module _ (a : ℕ) (packets : List ℕ) (room : ℕ) where
   -- Where unpacking answers 0 the rules hold.
   pub unpacked-rules : (n l : ℕ) → unpackAnswer a packets room ≡ Unpack.Unpacked n l → Unpacks a packets room
   unpacked-rules n l e = let m = unpacked-may a packets room n l e in record { inputSize = m .0; run = run-may (m .1) }
-
--- The same of unpacking bytes.
-module _ (a : ℕ) (bytes : List ℕ) (room : ℕ) where
-  pub rules-unpack-bytes : UnpacksBytes a bytes room
-      → unpackBytesAnswer a bytes room ≡ Unpack.Unpacked (length (packetsOf bytes)) (length (unpacked (packetsOf bytes)))
-  rules-unpack-bytes r =
-      unpack-bytes-as a bytes room (r .inputSize) (r .whole) ∙ run-done a (packetsOf bytes) room (run-must a (packetsOf bytes) room (r .run))
-
-  pub unpacked-bytes-rules : (n l : ℕ) → unpackBytesAnswer a bytes room ≡ Unpack.Unpacked n l → UnpacksBytes a bytes room
-  unpacked-bytes-rules n l e =
-      let m = unpacked-bytes-may a bytes room n l e in
-      record { inputSize = m .0; whole = m .1; run = run-may a (packetsOf bytes) room (m .2) }

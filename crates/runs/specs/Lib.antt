@@ -1,4 +1,3 @@
 pub mod Answers
-pub mod Bytes
 pub mod Rules
 pub mod Bodies

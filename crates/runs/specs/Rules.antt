@@ -2,13 +2,12 @@
 -- Assumes nothing.
 use mathlib.Core.Path.{_≡_}
 use mathlib.Core.List.{List}
-use Prim.Native.Nat.{ℕ, _+_, _%_, _≤_, _<_}
+use Prim.Native.Nat.{ℕ, _+_, _≤_, _<_}
 use lib.ListN.{length, getD}
 use Rattle.residues.specs.Alphabets.{codeLimit}
 use Rattle.packets.specs.Packing.{run}
 use Rattle.packets.specs.Runs.{unpacked}
 use Rattle.packets.specs.Rules.{WellFormed}
-use Rattle.packets.specs.Bytes.{packetsOf}
 
 pub record Packs (alphabet : ℕ) (codes : List ℕ) (room place : ℕ) : Type 0 where
   -- an input byte range has at most 2,147,483,647 bytes
@@ -31,9 +30,3 @@ pub record Unpacks (alphabet : ℕ) (packets : List ℕ) (room : ℕ) : Type 0 w
   -- an input packet range has at most 536,870,912 packets
   pub inputSize : length packets ≤ 536870912
   pub run : RunUnpacks alphabet packets room
-
-pub record UnpacksBytes (alphabet : ℕ) (bytes : List ℕ) (room : ℕ) : Type 0 where
-  pub inputSize : length bytes ≤ 2147483647
-  -- a multiple of 4 bytes
-  pub whole : length bytes % 4 ≡ 0
-  pub run : RunUnpacks alphabet (packetsOf bytes) room

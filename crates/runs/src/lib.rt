@@ -1,11 +1,6 @@
-// Packing and unpacking, over packets and over packets that are little-endian bytes.
-mod byte_runs;
-
+// Packing and unpacking over packets. Every public function takes any codes and packets.
 use answers::Checked;
 use answers::Refusal;
-pub use byte_runs::pack_bytes;
-pub use byte_runs::unpack_bytes;
-pub use byte_runs::unpack_bytes_answer;
 use packets::PacketPos;
 ghost use mathlib.Core.Path.{_≡_};
 ghost use mathlib.Core.Bool.{true};
@@ -73,8 +68,8 @@ fn run_fits(alphabet: u32, codes: &[u8], room: u64, place: PacketPos) -> bool
     run_length(alphabet, codes) as u64 <= left
 }
 
-// The rules of packing.
-fn check_pack(alphabet: u32, codes: &[u8], room: u64, place: PacketPos) -> Checked
+// The rules of packing, with so many packets of room; nothing is written.
+pub fn check_pack(alphabet: u32, codes: &[u8], room: u64, place: PacketPos) -> Checked
     ensures { λ r. ⌜ r ≡ checkedBy (packRules alphabet (now (codes .entry)) room (place .0)) ⌝ }
 {
     if codes.len() > answers::MOST_BYTES {

@@ -6,8 +6,7 @@ use lib.ListN.{length, drop, getD}
 use denote.Ref.{now}
 use Rattle.packets.specs.Runs.{residues, unpacked}
 use Rattle.packets.proofs.Lengths.{unpacked-most}
-use Rattle.runs.proofs.Counts.{count-inner, count-last}
-use Rattle.packets.proofs.Shapes.{well-some}
+use Rattle.packets.proofs.Shapes.{well-some, well-inner, count-inner, count-last}
 use borrow.Author.Needs.{needs}
 use Rattle.runs.proofs.count_residues.Statement.{statement}
 use Rattle.runs.proofs.count_residues.Tie as tie
@@ -36,7 +35,8 @@ code-count-requires c κs = search needs
 add-total : tie.Need-add-total Inv-loop μ-loop
 add-total c = let l = (c .before .before .before .loop) in
     let ps = now ((c .before .before .before .before .before .args) .packets) in
-    let e = count-inner ((c .before .before .before .before .before .args) .alphabet) ps ((c .before .before .before .before .before .pre) .0) (l .i) (omega arith) in
+    let a = (c .before .before .before .before .before .args) .alphabet in
+    let e = count-inner a ps (l .i) (omega arith) (well-inner a ps ((c .before .before .before .before .before .pre) .0) (l .i) (omega arith)) in
     omega (arith, (c .code-count) .ensures, l .inv .2, unpacked-most ps)
 
 add-i : tie.Need-add-i Inv-loop μ-loop
@@ -48,7 +48,8 @@ loop-less c = search needs
 loop-again : tie.Need-loop-again Inv-loop μ-loop
 loop-again c = let l = (c .before .before .before .loop) in
     let ps = now ((c .before .before .before .before .before .args) .packets) in
-    let e = count-inner ((c .before .before .before .before .before .args) .alphabet) ps ((c .before .before .before .before .before .pre) .0) (l .i) (omega arith) in
+    let a = (c .before .before .before .before .before .args) .alphabet in
+    let e = count-inner a ps (l .i) (omega arith) (well-inner a ps ((c .before .before .before .before .before .pre) .0) (l .i) (omega arith)) in
     (omega arith, l .inv .1, omega (arith, (c .code-count) .ensures, l .inv .2))
 
 mul-residue-count : tie.Need-mul-residue-count Inv-loop μ-loop

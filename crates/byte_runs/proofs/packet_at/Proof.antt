@@ -1,11 +1,11 @@
--- `runs::byte_runs::packet_at`: its four bytes, each at its place. Assumes nothing.
+-- `byte_runs::packet_at`: its four bytes, each at its place. Assumes nothing.
 use Prim.Native.Nat.{_-_}
 use native.Mathlib.Omega.{arith}
 use denote.Ref.{now}
-use Rattle.runs.proofs.Stores.{packet-sum}
+use Rattle.byte_runs.proofs.Stores.{packet-sum}
 use borrow.Author.Needs.{needs}
-use Rattle.runs.proofs.byte_runs.packet_at.Statement.{statement}
-use Rattle.runs.proofs.byte_runs.packet_at.Tie as tie
+use Rattle.byte_runs.proofs.packet_at.Statement.{statement}
+use Rattle.byte_runs.proofs.packet_at.Tie as tie
 
 byte-of-requires : tie.Need-byte-of-requires
 byte-of-requires c κs = search needs

@@ -1,10 +1,9 @@
-// Packing into and unpacking from packets that are little-endian bytes.
-use crate::PackAnswer;
-use crate::UnpackAnswer;
-use crate::check_pack;
+// Packing into and unpacking from packets that are little-endian bytes. Every public function takes any bytes.
 use answers::Checked;
 use answers::Refusal;
 use packets::PacketPos;
+use runs::PackAnswer;
+use runs::UnpackAnswer;
 ghost use mathlib.Core.Path.{_≡_};
 ghost use mathlib.Core.Bool.{true};
 ghost use Prim.Native.Nat.{_+_, _/_, _≤_, _<_};
@@ -15,7 +14,7 @@ ghost use Rattle.packets.specs.Positions.{byteOf};
 ghost use Rattle.packets.specs.Packing.{run};
 ghost use Rattle.packets.specs.Runs.{wellFormed, unpacked};
 ghost use Rattle.packets.specs.Bytes.{packetsOf, bytesOf};
-ghost use Rattle.runs.specs.Bytes.{packBytesAnswer, bytesAfter, unpackBytesAnswer, codesAfterBytes};
+ghost use Rattle.byte_runs.specs.Bytes.{packBytesAnswer, bytesAfter, runLength, unpackBytesAnswer, codesAfterBytes};
 
 // A byte as a wider number.
 fn wide(b: u8) -> u32
@@ -67,7 +66,7 @@ pub fn pack_bytes(alphabet: u32, codes: &[u8], bytes: &mut [u8], place: PacketPo
     ensures answer { λ r. ⌜ r ≡ packBytesAnswer alphabet (now (codes .entry)) (now (bytes .entry)) (place .0) ⌝ }
     ensures bytes { λ _. ⌜ now (bytes .exit) ≡ bytesAfter alphabet (now (codes .entry)) (now (bytes .entry)) (place .0) ⌝ }
 {
-    match check_pack(alphabet, codes, (bytes.len() / 4) as u64, place) {
+    match runs::check_pack(alphabet, codes, (bytes.len() / 4) as u64, place) {
         Checked::Refused(r) => PackAnswer::Refused(r),
         Checked::Passed => {
             let count = write_run_bytes(alphabet, codes, bytes, place);
@@ -79,39 +78,37 @@ pub fn pack_bytes(alphabet: u32, codes: &[u8], bytes: &mut [u8], place: PacketPo
     }
 }
 
-// Whether the packets of little-endian bytes are a well-formed run.
-fn is_run_bytes(alphabet: u32, bytes: &[u8]) -> bool
-    ensures { λ r. ⌜ r ≡ wellFormed alphabet (packetsOf (now (bytes .entry))) ⌝ }
+// What reading a run finds: the number of its residues, or that it is not well formed.
+pub(crate) enum RunLength {
+    Residues(usize),
+    NoRun,
+}
+
+// Reads the packets of little-endian bytes as a run, each once.
+fn read_run(alphabet: u32, bytes: &[u8]) -> RunLength
+    requires { ⌜ length (now bytes) ≤ 2147483647 ⌝ }
+    ensures { λ r. ⌜ r ≡ runLength alphabet (packetsOf (now (bytes .entry))) ⌝ }
 {
     let count = bytes.len() / 4;
     if count == 0 {
-        return false;
+        return RunLength::NoRun;
     }
     let last = count - 1;
-    let mut i: usize = 0;
-    while i < last {
-        if !packets::is_inner(alphabet, packet_at(bytes, PacketPos(i as u64))) {
-            return false;
-        }
-        i += 1;
-    }
-    let packet = packet_at(bytes, PacketPos(last as u64));
-    packets::is_ended(packets::step(alphabet, packets::state_after(last), packet))
-}
-
-// The number of residues of a well-formed run of little-endian bytes.
-fn count_residues_bytes(alphabet: u32, bytes: &[u8]) -> usize
-    requires { ⌜ (wellFormed alphabet (packetsOf (now bytes)) ≡ true) × (length (now bytes) ≤ 2147483647) ⌝ }
-    ensures { λ r. ⌜ r ≡ length (unpacked (packetsOf (now (bytes .entry)))) ⌝ }
-{
-    let last = bytes.len() / 4 - 1;
     let mut total: usize = 0;
     let mut i: usize = 0;
     while i < last {
-        total += packets::code_count(packet_at(bytes, PacketPos(i as u64)));
+        let packet = packet_at(bytes, PacketPos(i as u64));
+        if !packets::is_inner(alphabet, packet) {
+            return RunLength::NoRun;
+        }
+        total += packets::code_count(packet);
         i += 1;
     }
-    total + packets::residue_count(packet_at(bytes, PacketPos(last as u64)))
+    let packet = packet_at(bytes, PacketPos(last as u64));
+    if packets::is_ended(packets::step(alphabet, packets::state_after(last), packet)) {
+        return RunLength::Residues(total + packets::residue_count(packet));
+    }
+    RunLength::NoRun
 }
 
 // What unpacking little-endian bytes answers with so many bytes of room; nothing is written.
@@ -127,10 +124,9 @@ pub fn unpack_bytes_answer(alphabet: u32, bytes: &[u8], room: usize) -> UnpackAn
     if !residues::is_alphabet(alphabet) {
         return UnpackAnswer::Refused(Refusal::WrongKind);
     }
-    if !is_run_bytes(alphabet, bytes) {
+    let RunLength::Residues(total) = read_run(alphabet, bytes) else {
         return UnpackAnswer::Refused(Refusal::BadRun);
-    }
-    let total = count_residues_bytes(alphabet, bytes);
+    };
     if room < total {
         return UnpackAnswer::Refused(Refusal::NoRoom);
     }

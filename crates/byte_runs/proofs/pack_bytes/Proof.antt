@@ -1,14 +1,15 @@
--- `runs::byte_runs::pack_bytes`: the rules decide, and only then is the run written. Assumes nothing.
+-- `byte_runs::pack_bytes`: the rules decide, and only then is the run written. Assumes nothing.
 use mathlib.Core.Path.{sym, ap, _∙_}
 use denote.Ref.{now}
 use lib.ListN.{length}
 use Rattle.packets.specs.Packing.{run}
-use Rattle.runs.proofs.Answers.{check-refused, check-passed, pack-done, bytes-kept, bytes-written}
+use Rattle.runs.proofs.Answers.{check-refused, check-passed, pack-done}
+use Rattle.byte_runs.proofs.Answers.{bytes-kept, bytes-written}
 use Rattle.runs.specs.declared.PackAnswer.the-variants.{Packed}
 use Prim.Native.Nat.{ℕ, _/_}
 use borrow.Author.Needs.{needs}
-use Rattle.runs.proofs.byte_runs.pack_bytes.Statement.{statement}
-use Rattle.runs.proofs.byte_runs.pack_bytes.Tie as tie
+use Rattle.byte_runs.proofs.pack_bytes.Statement.{statement}
+use Rattle.byte_runs.proofs.pack_bytes.Tie as tie
 
 check-pack-requires : tie.Need-check-pack-requires
 check-pack-requires c κs = search needs

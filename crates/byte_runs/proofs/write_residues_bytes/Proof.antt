@@ -1,4 +1,4 @@
--- `runs::byte_runs::write_residues_bytes`: the residues written so far, and those of the packets still to read. Assumes nothing.
+-- `byte_runs::write_residues_bytes`: the residues written so far, and those of the packets still to read. Assumes nothing.
 use mathlib.Core.Path.{_≡_, refl, _∙_}
 use Prim.Native.Nat.{_≤_, _-_, _+_, _/_}
 use native.Mathlib.Omega.{arith}
@@ -10,10 +10,10 @@ use Rattle.packets.specs.Runs.{codesIn, residues, unpacked}
 use Rattle.packets.specs.Bytes.{packetsOf}
 use Rattle.packets.proofs.Bytes.{length-packets}
 use Rattle.packets.proofs.Shapes.{well-some}
 use Rattle.runs.proofs.Counts.{part-codes, part-residues, part-within, part-goes, part-behind, part-ends, inner-from, last-from}
 use borrow.Author.Needs.{needs}
-use Rattle.runs.proofs.byte_runs.write_residues_bytes.Statement.{statement}
-use Rattle.runs.proofs.byte_runs.write_residues_bytes.Tie as tie
+use Rattle.byte_runs.proofs.write_residues_bytes.Statement.{statement}
+use Rattle.byte_runs.proofs.write_residues_bytes.Tie as tie
 
 abbrev Inv-loop : tie.InvT-loop
 Inv-loop alphabet bytes out₀ last at₀ i₀ out at i = (i ≤ last) × (last + 1 ≡ length (packetsOf bytes)) × (length out ≡ length out₀) × (at ≤ length (unpacked (packetsOf bytes))) × (out ≡ paste out₀ 0 (unpacked (packetsOf bytes)) at) × (drop at (unpacked (packetsOf bytes)) ≡ unpacked (drop i (packetsOf bytes)))

@@ -1,4 +1,4 @@
--- `runs::byte_runs::write_run_bytes`: the packets written so far, and the run of the codes still to read. Assumes nothing.
+-- `byte_runs::write_run_bytes`: the packets written so far, and the run of the codes still to read. Assumes nothing.
 use mathlib.Core.Path.{_≡_, refl, ap, _∙_}
 use Prim.Native.Nat.{ℕ, _≤_, _-_, _+_}
 use native.Mathlib.Omega.{arith}
@@ -13,11 +13,11 @@ use Rattle.packets.specs.Packing.{run, packet}
 use Rattle.packets.specs.Bytes.{bytesOf}
 use Rattle.packets.proofs.Bytes.{length-bytes, bytes-cons, bytes-none}
 use Rattle.packets.proofs.Packing.{size-some, run-some}
 use Rattle.runs.proofs.Turns.{size-is, packet-is, run-ends, run-goes, count-ends, count-goes}
-use Rattle.runs.proofs.Stores.{bytes-room, bytes-go, bytes-behind, bytes-end}
+use Rattle.byte_runs.proofs.Stores.{bytes-room, bytes-go, bytes-behind, bytes-end}
 use borrow.Author.Needs.{needs}
-use Rattle.runs.proofs.byte_runs.write_run_bytes.Statement.{statement}
-use Rattle.runs.proofs.byte_runs.write_run_bytes.Tie as tie
+use Rattle.byte_runs.proofs.write_run_bytes.Statement.{statement}
+use Rattle.byte_runs.proofs.write_run_bytes.Tie as tie
 
 abbrev Inv-loop : tie.InvT-loop
 Inv-loop alphabet codes out₀ to₀ at₀ count₀ out to at count = (count ≤ at) × (at ≤ length codes - 1) × (length (run alphabet codes) ≡ count + length (run alphabet (drop at codes))) × (length out ≡ length out₀) × (to₀ ≤ to)

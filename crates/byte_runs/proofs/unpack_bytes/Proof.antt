@@ -1,11 +1,11 @@
--- `runs::byte_runs::unpack_bytes`: the answer decides, and only then are the residues written. Assumes nothing.
+-- `byte_runs::unpack_bytes`: the answer decides, and only then are the residues written. Assumes nothing.
 use mathlib.Core.Path.{sym, _∙_}
 use denote.Ref.{now}
 use lib.ListN.{length}
-use Rattle.runs.proofs.Answers.{unpacked-bytes-may, codes-bytes-kept, codes-bytes-written}
+use Rattle.byte_runs.proofs.Answers.{unpacked-bytes-may, codes-bytes-kept, codes-bytes-written}
 use borrow.Author.Needs.{needs}
-use Rattle.runs.proofs.byte_runs.unpack_bytes.Statement.{statement}
-use Rattle.runs.proofs.byte_runs.unpack_bytes.Tie as tie
+use Rattle.byte_runs.proofs.unpack_bytes.Statement.{statement}
+use Rattle.byte_runs.proofs.unpack_bytes.Tie as tie
 
 unpack-bytes-answer-requires : tie.Need-unpack-bytes-answer-requires
 unpack-bytes-answer-requires c κs = search needs
