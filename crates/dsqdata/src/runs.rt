@@ -4,12 +4,11 @@ use crate::header::field4;
 use crate::header::signed8;
 use answers::Refusal;
 use packets::PacketPos;
-use packets::RunState;
 ghost use mathlib.Core.Path.{_≡_};
 ghost use Prim.Native.Nat.{max, _≤_};
 ghost use lib.Seq.{slice};
 ghost use Rattle.laws.specs.Rules.{AllHold};
-ghost use Rattle.dsqdata.specs.Header.{packetsIn, bodyOf};
+ghost use Rattle.dsqdata.specs.Header.{packetsIn, packetAt, bodyOf};
 ghost use Rattle.dsqdata.specs.Ends.{packetTable};
 ghost use Rattle.dsqdata.specs.Check.{endsRules};
 ghost use Rattle.dsqdata.specs.Scans.{residuesOf, runRead, runsTo};
@@ -46,27 +45,38 @@ fn residues_of(run: Run) -> usize
     }
 }
 
-// Reads the run of the packets from one place up to, not including, another. Nothing may follow a packet that ends it.
+// The packet at a place of a sequence file.
+fn packet_at(sequence: &[u8], place: PacketPos) -> u32
+    ensures { λ r. ⌜ r ≡ packetAt (now (sequence .entry)) (place .0) ⌝ }
+{
+    let at = packets::byte_of(place, 8);
+    field4(sequence, at.0 as usize)
+}
+
+// Reads the run of the packets from one place up to, not including, another, each once.
 fn read_run(sequence: &[u8], alphabet: u32, from: PacketPos, to: PacketPos) -> Run
     requires { ⌜ (to .0 ≤ packetsIn (now sequence)) × (packetsIn (now sequence) ≤ 536870912) ⌝ }
     ensures { λ r. ⌜ r ≡ runRead alphabet (slice (from .0) (to .0) (bodyOf (now (sequence .entry)))) ⌝ }
 {
-    let mut state = RunState::Empty;
-    let mut residues: usize = 0;
-    let mut p = from.0;
+    let start = from.0;
     let end = to.0;
-    while p < end {
-        if packets::is_ended(state) {
+    if end <= start {
+        return Run::Refused(Refusal::BadRun);
+    }
+    let mut residues: usize = 0;
+    let mut p = start;
+    while p + 1 < end {
+        let packet = packet_at(sequence, PacketPos(p));
+        if !packets::is_inner(alphabet, packet) {
             return Run::Refused(Refusal::BadRun);
         }
-        let at = packets::byte_of(PacketPos(p), 8);
-        let packet = field4(sequence, at.0 as usize);
-        state = packets::step(alphabet, state, packet);
-        residues += packets::residue_count(packet);
+        residues += packets::code_count(packet);
         p += 1;
     }
-    if packets::is_ended(state) {
-        return Run::Residues(residues);
+    let last = packet_at(sequence, PacketPos(p));
+    let before = packets::state_after((p - start) as usize);
+    if packets::is_ended(packets::step(alphabet, before, last)) {
+        return Run::Residues(residues + packets::residue_count(last));
     }
     Run::Refused(Refusal::BadRun)
 }

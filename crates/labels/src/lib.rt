@@ -7,7 +7,6 @@ use elements::Span;
 use volume::IndexAnswer;
 ghost use mathlib.Core.Path.{_≡_};
 ghost use Prim.Native.Nat.{_≤_};
-ghost use lib.ListN.{length};
 ghost use Rattle.laws.specs.Signed.{toNat};
 ghost use Rattle.answers.specs.Limits.{checkedBy};
 ghost use Rattle.volume.specs.Tables.{offsetAt};

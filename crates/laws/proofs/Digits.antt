@@ -1,6 +1,6 @@
 -- Digits of k bits and the numbers that they write, for every k. Assumes nothing.
 use mathlib.Core.Path.{_≡_, refl, sym, ap, _∙_, subst⁻¹}
-use mathlib.Core.Bool.{true, false}
+use mathlib.Core.Bool.{true}
 use mathlib.Core.List.{List, [], _∷_, _++_}
 use Prim.Native.Nat.{ℕ, zero, suc, _+_, _*_, _/_, _%_, _^_, _-_, _≤_, _<_}
 use native.Mathlib.Nat.{add-mul, mul-assoc, zero-mul, zero-add, mul-suc, mul-zero, mul-add, mul-one}
@@ -9,7 +9,7 @@ use lib.Arith.{digits-lt}
 use lib.Dec.{ltb, lit<}
 use lib.ListN.{length, take, drop, getD}
 use lib.Pow.{pow-add, high, low, mod-pow-add}
-use borrow.Author.Tests.{lt-ltb, le-ltb, ltb-true}
+use borrow.Author.Tests.{lt-ltb, ltb-true}
 use Rattle.laws.specs.Digits.{digits, value, allBelow}
 use Rattle.laws.proofs.Tests.{both-pass}
 
@@ -22,10 +22,6 @@ below-parts m x xs e = let p = both-pass (ltb x m) (allBelow m xs) e in (ltb-tru
 pub below-cons : (m x : ℕ) (xs : List ℕ) → x < m → allBelow m xs ≡ true → allBelow m (x ∷ xs) ≡ true
 unfolding allBelow
 below-cons m x xs h e = rw (lt-ltb x m h) e
-
-pub below-fails : (m x : ℕ) (xs : List ℕ) → m ≤ x → allBelow m (x ∷ xs) ≡ false
-unfolding allBelow
-below-fails m x xs h = rw (le-ltb x m h)
 
 pub below-none : (m : ℕ) → allBelow m [] ≡ true
 unfolding allBelow

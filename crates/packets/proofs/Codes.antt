@@ -189,11 +189,6 @@ module _ (p : ℕ) (range : List ℕ) where
   unfolding residuesPut
   residues-lost cs e h = put-not (residues p) range (rw e h)
 
-  -- a 2-bit packet's residues are its codes
-  pub two-put : codesIn p ≡ residues p → codesPut p range ≡ residuesPut p range
-  unfolding codesPut residuesPut
-  two-put e = rw e
-
 -- the first digits written
 pub put-done : (k N p count : ℕ) (d : List ℕ) → count ≤ N → paste d 0 (digits k N p) count ≡ writtenAt 0 (take count (digits k N p)) d
 put-done k N p count d h = rw (length-take-le count (digits k N p) (rw (length-digits k N p) h))

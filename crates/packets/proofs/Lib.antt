@@ -7,6 +7,7 @@ pub mod Round
 pub mod Shapes
 pub mod Back
 pub mod Lengths
+pub mod Reading
 pub mod Ends
 pub mod Bytes
 pub mod Rules

@@ -22,10 +22,6 @@ pub formed-one : (a : ℕ) (w : Bool) (p : ℕ) → formed a w (p ∷ []) ≡ (f
 unfolding formed
 formed-one a w p = refl
 
-pub formed-cons : (a : ℕ) (w : Bool) (p q : ℕ) (ps : List ℕ) → formed a w (p ∷ q ∷ ps) ≡ (inner a p && formed a false (q ∷ ps))
-unfolding formed
-formed-cons a w p q ps = refl
-
 pub formed-well : (a : ℕ) (ps : List ℕ) → wellFormed a ps ≡ formed a true ps
 unfolding wellFormed
 formed-well a ps = refl

@@ -67,12 +67,6 @@ pub inner-codes : (a p : ℕ) → inner a p ≡ true → residues p ≡ codesIn 
 inner-codes a p e =
     bool-cases (isFiveBit p) (λ f. inner-six a p f e ∙ rw (codes-is, f)) (λ t. two-residues p t ∙ rw (codes-is, t))
 
-pub codes-some : (p : ℕ) → 0 < length (codesIn p)
-codes-some p =
-    bool-cases (isFiveBit p)
-    (λ f. rw (codes-is, f) (omega (arith, length-digits 5 6 p)))
-    (λ t. rw (codes-is, t) (omega (arith, length-digits 2 15 p)))
-
 four-least : (b : Bool) → 4 ≤ cond b 28 16
 four-least true = lit≤ tt
 four-least false = lit≤ tt

@@ -52,7 +52,7 @@ broken a [] = refl
 broken a (p ∷ ps) = ap (λ (s : RunState). runSteps a s ps) (broken-step (inner a p) (final a p)) ∙ broken a ps
 
 -- what follows a run's end breaks it
-pub over : (a p : ℕ) (ps : List ℕ) → ended (runSteps a Ended (p ∷ ps)) ≡ false
+over : (a p : ℕ) (ps : List ℕ) → ended (runSteps a Ended (p ∷ ps)) ≡ false
 unfolding runStep
 over a p ps = ap (λ (s : RunState). ended (runSteps a s ps)) (broken-step (inner a p) (final a p)) ∙ ap ended (broken a ps)
 

@@ -17,7 +17,7 @@ use Rattle.laws.proofs.Digits.{below-drop}
 use Rattle.residues.specs.Alphabets.{codeLimit, validCodes}
 use Rattle.residues.proofs.Alphabets.{valid-below}
 use Rattle.packets.specs.Packing.{sizeOf, packetOf, size, packet, run}
-use Rattle.packets.proofs.Packing.{size-le, packet-below, run-last, run-more}
+use Rattle.packets.proofs.Packing.{packet-below, run-last, run-more}
 
 -- what `encode` says of the codes from a place on
 module _ (a : ℕ) (codes : List ℕ) (at : ℕ) where
@@ -37,9 +37,6 @@ module _ (a : ℕ) (codes : List ℕ) (at : ℕ) where
       e ∙ (rw (part-rest codes at, left-is) (mod-eq-of-lt l))
 
   module _ (s : ℕ) (e : s ≡ size a (drop at codes)) where
-    pub step-within : s ≤ length codes - at
-    step-within = omega (arith, size-le a (drop at codes), left-is)
-
     -- the packet takes all that is left
     pub run-ends : length codes - at ≤ s → run a (drop at codes) ≡ packet a (drop at codes) ∷ []
     run-ends h = run-last a (drop at codes) (omega (arith, left-is))

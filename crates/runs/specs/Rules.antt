@@ -1,6 +1,5 @@
 -- When packing and unpacking succeed, rule by rule as document 01 words them.
 -- Assumes nothing.
-use mathlib.Core.Path.{_≡_}
 use mathlib.Core.List.{List}
 use Prim.Native.Nat.{ℕ, _+_, _≤_, _<_}
 use lib.ListN.{length, getD}

@@ -69,9 +69,6 @@ pub dna-type : (index : List ℕ) → statedType index ≡ pos 0 → isProtein i
 unfolding volumeType
 dna-type index e = rw e
 
-one-type : (index : List ℕ) → statedType index ≡ pos 1 → statedType index ≡ pos 0 → ⊥
-one-type index e f = let z : _≡_ {A = ℕ} 1 0 = ap toNat (sym e ∙ f) in omega arith
-
 -- ---- the fixed fields
 
 -- N is at most 134,217,728

@@ -1,54 +1,47 @@
 -- `byte_runs::read_run`: each packet before the last may stand there, and its codes are counted; the last one decides. Assumes nothing.
-use mathlib.Core.Path.{_≡_, refl, sym, ap, _∙_}
-use Prim.Native.Nat.{ℕ, _≤_, _-_, _+_, _/_}
+use mathlib.Core.Path.{_≡_, sym, _∙_}
+use Prim.Native.Nat.{_≤_, _-_, _+_, _/_}
 use native.Mathlib.Omega.{arith}
 use borrow.Author.Tests.{not-true, not-false}
-use lib.ListN.{length, drop, getD}
+use lib.ListN.{length}
 use denote.Ref.{now}
-use Rattle.packets.specs.declared.RunState.{RunState}
-use Rattle.packets.specs.declared.RunState.the-variants.{Empty}
-use Rattle.packets.specs.Runs.{codesIn, residues, inner, wellFormed, unpacked}
-use Rattle.packets.specs.Steps.{runStep, stateAfter, runSteps, ended}
 use Rattle.packets.specs.Bytes.{packetsOf}
 use Rattle.packets.proofs.Bytes.{length-packets}
 use Rattle.packets.proofs.Lengths.{unpacked-most}
-use Rattle.packets.proofs.Steps.{inner-turn, last-turn}
-use Rattle.packets.proofs.Shapes.{none-not, inner-not, count-inner, count-last}
+use Rattle.packets.proofs.Reading.{ReadTo, read-none, read-most, read-inner, read-broken, read-ended, read-total}
+use Rattle.packets.proofs.Shapes.{none-not}
 use Rattle.byte_runs.specs.Bytes.{runLength}
 use borrow.Author.Needs.{needs}
 use Rattle.byte_runs.proofs.read_run.Statement.{statement}
 use Rattle.byte_runs.proofs.read_run.Tie as tie
 
 abbrev Inv-loop : tie.InvT-loop
-Inv-loop alphabet bytes count last total₀ i₀ total i = (i ≤ last)
-    × (last + 1 ≡ length (packetsOf bytes))
-    × (runSteps alphabet (stateAfter i) (drop i (packetsOf bytes)) ≡ runSteps alphabet Empty (packetsOf bytes))
-    × (length (unpacked (packetsOf bytes)) ≡ total + length (unpacked (drop i (packetsOf bytes))))
+Inv-loop alphabet bytes count last total₀ i₀ total i = (i ≤ last) × (last + 1 ≡ length (packetsOf bytes)) × ReadTo alphabet (packetsOf bytes) i total
 
 abbrev μ-loop : tie.MeasureT-loop
 μ-loop alphabet bytes count last total₀ i₀ total i = last - i
 
 returns : tie.Need-returns Inv-loop μ-loop
 unfolding runLength
-returns c = let a = (c .before .before .args) .alphabet in
-    let bytes = now ((c .before .before .args) .bytes) in
+returns c = let a = (c .before .before .args) in
+    let bytes = now (a .bytes) in
     let ps = packetsOf bytes in
     let n = length-packets bytes in
-    rw (none-not a ps (omega arith))
+    rw (none-not (a .alphabet) ps (omega arith))
 
 sub-last : tie.Need-sub-last Inv-loop μ-loop
 sub-last c = search needs
 
 loop-holds : tie.Need-loop-holds Inv-loop μ-loop
-loop-holds c = let a = (c .before .before .args) .alphabet in
-    let bytes = now ((c .before .before .args) .bytes) in
+loop-holds c = let a = (c .before .before .args) in
+    let bytes = now (a .bytes) in
     let ps = packetsOf bytes in
     let n = length-packets bytes in
-    (omega arith, omega arith, refl, omega arith)
+    (omega arith, omega arith, read-none (a .alphabet) ps)
 
 packet-at-requires : tie.Need-packet-at-requires Inv-loop μ-loop
-packet-at-requires c κs = let a = (c .before .before .before .before .args) .alphabet in
-    let bytes = now ((c .before .before .before .before .args) .bytes) in
+packet-at-requires c κs = let a = (c .before .before .before .before .args) in
+    let bytes = now (a .bytes) in
     let ps = packetsOf bytes in
     let n = length-packets bytes in
     omega arith
@@ -58,25 +51,24 @@ is-inner-requires c κs = search needs
 
 returns-2 : tie.Need-returns-2 Inv-loop μ-loop
 unfolding runLength
-returns-2 c = let a = (c .before .before .before .before .before .before .before .args) .alphabet in
-    let bytes = now ((c .before .before .before .before .before .before .before .args) .bytes) in
+returns-2 c = let a = (c .before .before .before .before .before .before .before .args) in
+    let bytes = now (a .bytes) in
     let ps = packetsOf bytes in
     let n = length-packets bytes in
     let l = (c .before .before .before .before .loop) in
-    rw (inner-not a ps (l .i) (omega arith) (sym ((c .before .is-inner) .ensures ∙ ap (λ (p : ℕ). inner a p) ((c .before .before .packet-at) .ensures)) ∙ not-true _ ((c .if2) .taken)))
+    rw (read-broken (a .alphabet) ps (l .i) ((c .before .before .packet-at) .result) ((c .before .before .packet-at) .ensures) ((c .before .is-inner) .result) (omega arith) ((c .before .is-inner) .ensures) (not-true _ ((c .if2) .taken)))
 
 code-count-requires : tie.Need-code-count-requires Inv-loop μ-loop
 code-count-requires c κs = search needs
 
 add-total : tie.Need-add-total Inv-loop μ-loop
-add-total c = let a = (c .before .before .before .before .before .before .before .before .args) .alphabet in
-    let bytes = now ((c .before .before .before .before .before .before .before .before .args) .bytes) in
+add-total c = let a = (c .before .before .before .before .before .before .before .before .args) in
+    let bytes = now (a .bytes) in
     let ps = packetsOf bytes in
     let n = length-packets bytes in
     let l = (c .before .before .before .before .before .loop) in
-    let k : (c .code-count) .result ≡ length (codesIn (getD ps (l .i) 0)) = (c .code-count) .ensures ∙ ap (λ (p : ℕ). length (codesIn p)) ((c .before .before .before .packet-at) .ensures) in
-    let e = count-inner a ps (l .i) (omega arith) (sym ((c .before .before .is-inner) .ensures ∙ ap (λ (p : ℕ). inner a p) ((c .before .before .before .packet-at) .ensures)) ∙ not-false _ ((c .before .if2) .left)) in
-    omega (arith, l .inv .3, unpacked-most ps)
+    let r = read-inner (a .alphabet) ps (l .i) ((c .before .before .before .packet-at) .result) ((c .before .before .before .packet-at) .ensures) (l .total) ((c .code-count) .result) ((c .before .before .is-inner) .result) (omega arith) ((c .before .before .is-inner) .ensures) (not-false _ ((c .before .if2) .left)) ((c .code-count) .ensures) (l .inv .2) in
+    omega (arith, read-most (a .alphabet) ps (l .i + 1) (l .total + (c .code-count) .result) r)
 
 add-i : tie.Need-add-i Inv-loop μ-loop
 add-i c = search needs
@@ -85,18 +77,13 @@ loop-less : tie.Need-loop-less Inv-loop μ-loop
 loop-less c = search needs
 
 loop-again : tie.Need-loop-again Inv-loop μ-loop
-loop-again c = let a = (c .before .before .before .before .before .before .before .before .args) .alphabet in
-    let bytes = now ((c .before .before .before .before .before .before .before .before .args) .bytes) in
+loop-again c = let a = (c .before .before .before .before .before .before .before .before .args) in
+    let bytes = now (a .bytes) in
     let ps = packetsOf bytes in
     let n = length-packets bytes in
     let l = (c .before .before .before .before .before .loop) in
-    let k : (c .code-count) .result ≡ length (codesIn (getD ps (l .i) 0)) = (c .code-count) .ensures ∙ ap (λ (p : ℕ). length (codesIn p)) ((c .before .before .before .packet-at) .ensures) in
-    let e = count-inner a ps (l .i) (omega arith) (sym ((c .before .before .is-inner) .ensures ∙ ap (λ (p : ℕ). inner a p) ((c .before .before .before .packet-at) .ensures)) ∙ not-false _ ((c .before .if2) .left)) in (
-      omega arith,
-      l .inv .1,
-      sym (inner-turn a ps (l .i) (omega arith) (sym ((c .before .before .is-inner) .ensures ∙ ap (λ (p : ℕ). inner a p) ((c .before .before .before .packet-at) .ensures)) ∙ not-false _ ((c .before .if2) .left))) ∙ l .inv .2,
-      omega (arith, l .inv .3),
-    )
+    let r = read-inner (a .alphabet) ps (l .i) ((c .before .before .before .packet-at) .result) ((c .before .before .before .packet-at) .ensures) (l .total) ((c .code-count) .result) ((c .before .before .is-inner) .result) (omega arith) ((c .before .before .is-inner) .ensures) (not-false _ ((c .before .if2) .left)) ((c .code-count) .ensures) (l .inv .2) in
+    (omega arith, l .inv .1, r)
 
 packet-at-requires-2 : tie.Need-packet-at-requires-2 Inv-loop μ-loop
 packet-at-requires-2 c κs = omega arith
@@ -114,46 +101,42 @@ residue-count-requires : tie.Need-residue-count-requires Inv-loop μ-loop
 residue-count-requires c κs = search needs
 
 add-t22 : tie.Need-add-t22 Inv-loop μ-loop
-add-t22 c = let a = (c .before .before .before .before .before .before .before .before .before .before .args) .alphabet in
-    let bytes = now ((c .before .before .before .before .before .before .before .before .before .before .args) .bytes) in
+add-t22 c = let a = (c .before .before .before .before .before .before .before .before .before .before .args) in
+    let bytes = now (a .bytes) in
     let ps = packetsOf bytes in
     let n = length-packets bytes in
     let l = (c .before .before .before .before .before .before .before .loop) in
     let last = length bytes / 4 - 1 in
     let i : l .i ≡ last = omega arith in
-    let k : (c .residue-count) .result ≡ length (residues (getD ps last 0)) = (c .residue-count) .ensures ∙ ap (λ (p : ℕ). length (residues p)) ((c .before .before .before .before .before .packet-at2) .ensures) in
-    let e : length (unpacked (drop (l .i) ps)) ≡ length (residues (getD ps last 0)) = rw i (count-last ps last (omega arith)) in
-    omega (arith, l .inv .3, unpacked-most ps)
+    let r : ReadTo (a .alphabet) ps last (l .total) = rw (← i) (l .inv .2) in
+    let t = read-total (a .alphabet) ps last ((c .before .before .before .before .before .packet-at2) .result) ((c .before .before .before .before .before .packet-at2) .ensures) (l .total) ((c .residue-count) .result) (omega arith) r ((c .residue-count) .ensures) in
+    omega (arith, unpacked-most ps)
 
 returns-3 : tie.Need-returns-3 Inv-loop μ-loop
 unfolding runLength
-returns-3 c = let a = (c .before .before .before .before .before .before .before .before .before .before .args) .alphabet in
-    let bytes = now ((c .before .before .before .before .before .before .before .before .before .before .args) .bytes) in
+returns-3 c = let a = (c .before .before .before .before .before .before .before .before .before .before .args) in
+    let bytes = now (a .bytes) in
     let ps = packetsOf bytes in
     let n = length-packets bytes in
     let l = (c .before .before .before .before .before .before .before .loop) in
     let last = length bytes / 4 - 1 in
     let i : l .i ≡ last = omega arith in
-    let s : (c .before .before .before .step) .result ≡ runStep a (stateAfter last) (getD ps last 0) =
-    (c .before .before .before .step) .ensures ∙ (ap (λ (s : RunState). runStep a s ((c .before .before .before .before .before .packet-at2) .result)) ((c .before .before .before .before .state-after) .ensures) ∙ ap (λ (p : ℕ). runStep a (stateAfter last) p) ((c .before .before .before .before .before .packet-at2) .ensures)) in
-    let w : (c .before .before .is-ended) .result ≡ wellFormed a ps = (c .before .before .is-ended) .ensures ∙ (ap ended s ∙ last-turn a ps last (omega arith) (rw (← i) (l .inv .2))) in
-    let k : (c .residue-count) .result ≡ length (residues (getD ps last 0)) = (c .residue-count) .ensures ∙ ap (λ (p : ℕ). length (residues p)) ((c .before .before .before .before .before .packet-at2) .ensures) in
-    let e : length (unpacked (drop (l .i) ps)) ≡ length (residues (getD ps last 0)) = rw i (count-last ps last (omega arith)) in
-    let t : l .total + (c .residue-count) .result ≡ length (unpacked ps) = omega (arith, l .inv .3) in
+    let r : ReadTo (a .alphabet) ps last (l .total) = rw (← i) (l .inv .2) in
+    let w = read-ended (a .alphabet) ps last ((c .before .before .before .before .before .packet-at2) .result) ((c .before .before .before .before .before .packet-at2) .ensures) (l .total) ((c .before .before .before .before .state-after) .result) ((c .before .before .before .step) .result) ((c .before .before .is-ended) .result) (omega arith) r ((c .before .before .before .before .state-after) .ensures) ((c .before .before .before .step) .ensures) ((c .before .before .is-ended) .ensures) in
+    let t = read-total (a .alphabet) ps last ((c .before .before .before .before .before .packet-at2) .result) ((c .before .before .before .before .before .packet-at2) .ensures) (l .total) ((c .residue-count) .result) (omega arith) r ((c .residue-count) .ensures) in
     rw (sym w ∙ (c .before .if3) .taken, t)
 
 returns-4 : tie.Need-returns-4 Inv-loop μ-loop
 unfolding runLength
-returns-4 c = let a = (c .before .before .before .before .before .before .before .before .before .args) .alphabet in
-    let bytes = now ((c .before .before .before .before .before .before .before .before .before .args) .bytes) in
+returns-4 c = let a = (c .before .before .before .before .before .before .before .before .before .args) in
+    let bytes = now (a .bytes) in
     let ps = packetsOf bytes in
     let n = length-packets bytes in
     let l = (c .before .before .before .before .before .before .loop) in
     let last = length bytes / 4 - 1 in
     let i : l .i ≡ last = omega arith in
-    let s : (c .before .before .step) .result ≡ runStep a (stateAfter last) (getD ps last 0) =
-    (c .before .before .step) .ensures ∙ (ap (λ (s : RunState). runStep a s ((c .before .before .before .before .packet-at2) .result)) ((c .before .before .before .state-after) .ensures) ∙ ap (λ (p : ℕ). runStep a (stateAfter last) p) ((c .before .before .before .before .packet-at2) .ensures)) in
-    let w : (c .before .is-ended) .result ≡ wellFormed a ps = (c .before .is-ended) .ensures ∙ (ap ended s ∙ last-turn a ps last (omega arith) (rw (← i) (l .inv .2))) in
+    let r : ReadTo (a .alphabet) ps last (l .total) = rw (← i) (l .inv .2) in
+    let w = read-ended (a .alphabet) ps last ((c .before .before .before .before .packet-at2) .result) ((c .before .before .before .before .packet-at2) .ensures) (l .total) ((c .before .before .before .state-after) .result) ((c .before .before .step) .result) ((c .before .is-ended) .result) (omega arith) r ((c .before .before .before .state-after) .ensures) ((c .before .before .step) .ensures) ((c .before .is-ended) .ensures) in
     rw (sym w ∙ (c .if3) .left)
 
 pub read-run-spec : {M : Type 1} → statement M

@@ -1,6 +1,5 @@
 -- `residues::code_limit`: by the test of the alphabet. Assumes nothing.
 use borrow.Author.Tests.{eq-eqb, ne-eqb}
-use borrow.Author.Needs.{needs}
 use Rattle.residues.proofs.code_limit.Statement.{statement}
 use Rattle.residues.proofs.code_limit.Tie as tie
 

@@ -1,6 +1,5 @@
 -- `residues::is_alphabet`: by its two tests. Assumes nothing.
 use borrow.Author.Tests.{le-leb, lt-leb}
-use borrow.Author.Needs.{needs}
 use Rattle.residues.proofs.is_alphabet.Statement.{statement}
 use Rattle.residues.proofs.is_alphabet.Tie as tie
 

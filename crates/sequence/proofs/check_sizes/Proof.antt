@@ -1,6 +1,5 @@
 -- `sequence::check_sizes`: each test is the rule of the same place in the list. Assumes nothing.
 use borrow.Author.Tests.{le-leb, lt-leb}
-use borrow.Author.Needs.{needs}
 use Rattle.sequence.proofs.check_sizes.Statement.{statement}
 use Rattle.sequence.proofs.check_sizes.Tie as tie
 
