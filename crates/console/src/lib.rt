@@ -1,6 +1,7 @@
 // The console's calls: numbers and byte ranges in, an answer number out, results as eight-byte little-endian numbers.
 mod results;
 
+use byte_runs::unpack_bytes_answer;
 use packets::PacketPos;
 pub use results::put_results;
 use runs::PackAnswer;
@@ -61,11 +62,7 @@ pub extern "C" fn gull_unpack(
     ensures results { λ _. ⌜ now (results .exit) ≡ unpackResults (consoleUnpack alphabet (now (packets .entry)) (length (now (codes .entry))) (length (now (results .entry)))) (now (results .entry)) ⌝ }
 {
     if results.len() < 16 {
-        let UnpackAnswer::Refused(r) = byte_runs::unpack_bytes_answer(
-            alphabet,
-            packets,
-            codes.len(),
-        ) else {
+        let UnpackAnswer::Refused(r) = unpack_bytes_answer(alphabet, packets, codes.len()) else {
             return 13;
         };
         return answers::number(r);
