@@ -146,11 +146,11 @@ fn write_residues_bytes(alphabet: u32, bytes: &[u8], out: &mut [u8])
     let mut i: usize = 0;
     while i < last {
         let packet = packet_at(bytes, PacketPos(i as u64));
-        packets::decode_codes(packet, &mut out[at..]);
+        packets::decode_codes(packet, out, at);
         at += packets::code_count(packet);
         i += 1;
     }
-    packets::decode(packet_at(bytes, PacketPos(last as u64)), &mut out[at..]);
+    packets::decode(packet_at(bytes, PacketPos(last as u64)), out, at);
 }
 
 // Unpacks a run of little-endian bytes: writes its residues at the start of the output.

@@ -8,7 +8,8 @@ use native.Mathlib.Omega.{arith}
 use lib.Arith.{digits-lt}
 use lib.Dec.{ltb, lit<}
 use lib.ListN.{length, take, drop, getD}
-use lib.Pow.{pow-add, high, low, mod-pow-add}
+use lib.Pow.{pow-add, high, low, mod-pow-add, shr-shr}
+use lib.Seq.{take-at}
 use borrow.Author.Tests.{lt-ltb, ltb-true}
 use Rattle.laws.specs.Digits.{digits, value, allBelow}
 use Rattle.laws.proofs.Tests.{both-pass}
@@ -124,3 +125,20 @@ value-digits k zero p = rw (mul-zero k) (omega arith)
 value-digits k (suc n) p =
     let e : k * suc n ≡ k + k * n = mul-suc k n ∙ omega arith in
     rw (value-after k (0 * 2 ^ k + p / 2 ^ (k * n) % 2 ^ k) (digits k n p), length-digits, value-digits k n p, e, mod-pow-add p k (k * n), zero-mul, zero-add)
+
+-- ---- parts of the digits
+
+-- the higher digits, then the lower ones
+pub digits-split : (k m n p : ℕ) → digits k (m + n) p ≡ digits k m (p / 2 ^ (k * n)) ++ digits k n p
+unfolding digits
+digits-split k zero n p = ap (λ (j : ℕ). digits k j p) (zero-add n)
+digits-split k (suc m) n p =
+    let s : suc m + n ≡ suc (m + n) = omega arith in
+    let e : k * (m + n) ≡ k * n + k * m = mul-add k m n ∙ omega arith in
+    let q : p / 2 ^ (k * (m + n)) ≡ p / 2 ^ (k * n) / 2 ^ (k * m) = ap (λ (j : ℕ). p / 2 ^ j) e ∙ sym (shr-shr p (k * n) (k * m)) in
+    ap (λ (j : ℕ). digits k j p) s ∙ rw (q, digits-split k m n p)
+
+-- the first digits
+pub take-digits : (k i j p : ℕ) → take i (digits k (i + j) p) ≡ digits k i (p / 2 ^ (k * j))
+take-digits k i j p =
+    ap (λ (l : List ℕ). take i l) (digits-split k i j p) ∙ take-at (digits k i (p / 2 ^ (k * j))) (digits k j p) i (length-digits k i (p / 2 ^ (k * j)))

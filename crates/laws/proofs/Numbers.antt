@@ -1,26 +1,32 @@
--- Bounds of digits and of the larger of two numbers, and a number with one digit more. Assumes nothing.
+-- Bounds of digits and of the larger of two numbers, a number with one digit more, and room behind a place. Assumes nothing.
 use mathlib.Core.Path.{_≡_, refl, sym, _∙_}
 use mathlib.Core.Bool.{true, _&&_}
 use mathlib.Core.List.{List, [], _∷_, _++_}
-use Prim.Native.Nat.{ℕ, zero, suc, _+_, _*_, _/_, _%_, _^_, _≤_, _<_, max, min}
-use native.Mathlib.Nat.{mod-lt}
+use Prim.Native.Nat.{ℕ, zero, suc, _+_, _-_, _*_, _/_, _%_, _^_, _≤_, _<_, max, min}
+use native.Mathlib.Nat.{mod-lt, zero-mul, zero-add}
 use native.Mathlib.Omega.{arith}
 use lib.Dec.{leb, ltb}
 use lib.ListN.{length, take, getD}
 use lib.Pow.{pow-pos}
 use lib.Seq.{take-all, take-length}
-use borrow.Author.Tests.{lt-ltb, le-ltb, ltb-true, ltb-false, leb-true, leb-false}
+use borrow.Author.Tests.{lt-ltb, le-ltb, ltb-true, ltb-false, le-leb, lt-leb, leb-true, leb-false}
 use Rattle.laws.specs.Digits.{digits, value, allBelow}
 use Rattle.laws.specs.Places.{largestTo}
 use Rattle.laws.proofs.Tests.{bool-cases, never}
 use Rattle.laws.proofs.Places.{largest-at}
-use Rattle.laws.proofs.Digits.{below-none, below-cons, below-at, below-all}
+use Rattle.laws.proofs.Digits.{below-none, below-cons, below-at, below-all, length-digits, digits-value, value-digits}
 
 -- digits of k bits are below 2^k
 pub digits-below : (k n p : ℕ) → allBelow (2 ^ k) (digits k n p) ≡ true
 unfolding digits
 digits-below k zero p = below-none (2 ^ k)
 digits-below k (suc n) p = below-cons (2 ^ k) (p / 2 ^ (k * n) % 2 ^ k) (digits k n p) (mod-lt (p / 2 ^ (k * n)) (pow-pos k)) (digits-below k n p)
+
+-- what stands above the digits does not matter
+pub digits-low : (k n p : ℕ) → digits k n (p % 2 ^ (k * n)) ≡ digits k n p
+digits-low k n p =
+    let e = digits-value k 0 (digits k n p) (digits-below k n p) in
+    (rw (length-digits, value-digits, zero-mul, zero-add) at e)
 
 -- one digit more at the end
 pub value-more : (k acc : ℕ) (xs : List ℕ) (x : ℕ) → value k acc (xs ++ (x ∷ [])) ≡ value k acc xs * 2 ^ k + x
@@ -63,3 +69,10 @@ largest-below m xs h =
     let a : getD xs k 0 ≤ largestTo (λ i. getD xs i 0) (length xs) = largest-at (λ i. getD xs i 0) (length xs) k l in
     omega (arith, ltb-true _ m t))))
     (λ f. f ∙ sym e))
+
+-- room behind a place
+pub fits-behind : (place n room : ℕ) → place ≤ room → leb n (room - place) ≡ leb (place + n) room
+fits-behind place n room h =
+    bool-cases (leb n (room - place))
+    (λ e. e ∙ sym (le-leb (place + n) room (omega (arith, leb-true n (room - place) e))))
+    (λ e. e ∙ sym (lt-leb (place + n) room (omega (arith, leb-false n (room - place) e))))

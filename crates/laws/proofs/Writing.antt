@@ -5,8 +5,8 @@ use Prim.Native.Nat.{ℕ, _+_, _-_, _≤_, _<_}
 use native.Mathlib.Nat.{add-assoc}
 use native.Mathlib.Numerals.{add-one}
 use native.Mathlib.Omega.{arith}
-use lib.ListN.{length, take, drop, getD, set, length-append, length-take, length-drop}
-use lib.Seq.{paste, paste-suc, length-paste-head, take-length, take-at, drop-at, take-add, drop-drop, take-append-seam, drop-append-seam, drop-cons}
+use lib.ListN.{length, take, drop, getD, set, length-append, length-take, length-drop, take-append-drop}
+use lib.Seq.{paste, paste-suc, length-paste-head, length-take-le, take-length, take-at, drop-at, take-add, drop-drop, take-append-seam, drop-append-seam, drop-cons}
 use Rattle.laws.specs.Writing.{writtenAt}
 
 module _ {ℓ} {A : Type ℓ} where
@@ -51,6 +51,41 @@ module _ {ℓ} {A : Type ℓ} where
       ∙ drop-drop (length ys) (place + length xs) old
       ∙ ap (λ (m : ℕ). drop m old) (add-assoc place (length xs) (length ys) ∙ ap (λ (m : ℕ). place + m) (sym (length-append xs ys))) in
       rw (a, b) (simp append-assoc)
+
+  -- what is written at a place covers what was written there before
+  pub written-again : (place : ℕ) (ys zs old : List A) → place + length ys ≤ length old → length zs ≤ length ys
+      → writtenAt place ys (writtenAt place zs old) ≡ writtenAt place ys old
+  written-again place ys zs old h l =
+      let t : length (take place old) ≡ place = rw length-take (omega arith) in
+      let f : length (take place old ++ zs) ≡ place + length zs = simp (length-append, length-take) (omega arith) in
+      let m : place + length zs + (length ys - length zs) ≡ place + length ys = omega arith in
+      let e : writtenAt place zs old ≡ take place old ++ (zs ++ drop (place + length zs) old) = append-assoc (take place old) zs (drop (place + length zs) old) in
+      let a : take place (writtenAt place zs old) ≡ take place old =
+      ap (λ (l : List A). take place l) e ∙ take-at (take place old) (zs ++ drop (place + length zs) old) place t in
+      let b : drop (place + length ys) (writtenAt place zs old) ≡ drop (place + length ys) old =
+      ap (λ (n : ℕ). drop n (writtenAt place zs old)) (sym m)
+      ∙ sym (drop-drop (length ys - length zs) (place + length zs) (writtenAt place zs old))
+      ∙ ap (λ (l : List A). drop (length ys - length zs) l) (drop-at (take place old ++ zs) (drop (place + length zs) old) (place + length zs) f)
+      ∙ drop-drop (length ys - length zs) (place + length zs) old
+      ∙ ap (λ (n : ℕ). drop n old) m in
+      rw (a, b)
+
+  -- a list written over the end of another, from its element i on
+  pub written-over : (place i : ℕ) (xs ys old : List A) → i ≤ length xs → length xs ≤ i + length ys → place + i + length ys ≤ length old
+      → writtenAt (place + i) ys (writtenAt place xs old) ≡ writtenAt place (take i xs ++ ys) old
+  written-over place i xs ys old h l r =
+      let n : length (take i xs) ≡ i = length-take-le i xs h in
+      let m : length (drop i xs) ≡ length xs - i = length-drop i xs in
+      let s = writtenAt place (take i xs) old in
+      let e : writtenAt place xs old ≡ writtenAt (place + i) (drop i xs) s =
+      ap (λ (l : List A). writtenAt place l old) (sym (take-append-drop i xs))
+      ∙ sym (written-twice place (take i xs) (drop i xs) old (omega arith))
+      ∙ ap (λ (k : ℕ). writtenAt (place + k) (drop i xs) s) n in
+      let c : length s ≡ length old = length-written place (take i xs) old (omega arith) in
+      ap (λ (l : List A). writtenAt (place + i) ys l) e
+      ∙ written-again (place + i) ys (drop i xs) s (omega arith) (omega arith)
+      ∙ ap (λ (k : ℕ). writtenAt (place + k) ys s) (sym n)
+      ∙ written-twice place (take i xs) ys old (omega arith)
 
 -- the element at a place and what follows it
 pub drop-step : (s : List ℕ) (i d : ℕ) → i < length s → drop i s ≡ getD s i d ∷ drop (i + 1) s

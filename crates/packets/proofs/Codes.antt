@@ -4,10 +4,10 @@ use mathlib.Core.Bool.{Bool, true, false, not, cond, _&&_}
 use mathlib.Core.List.{List, [], _∷_}
 use Prim.Native.Nat.{ℕ, suc, _+_, _/_, _%_, _^_, _-_, _≤_, _<_}
 use native.Mathlib.Omega.{arith}
-use lib.Dec.{eqb}
+use lib.Dec.{eqb, leb}
 use lib.ListN.{length, take, drop, set}
-use lib.Seq.{paste, length-take-le, take-all}
-use borrow.Author.Tests.{lt-ltb, le-ltb, eq-eqb, ne-eqb, eqb-true, eqb-false, le-leb, lt-leb}
+use lib.Seq.{paste, length-take-le}
+use borrow.Author.Tests.{lt-ltb, le-ltb, eq-eqb, ne-eqb, eqb-true, eqb-false, le-leb}
 use Rattle.laws.specs.Digits.{digits, allBelow}
 use Rattle.laws.specs.Writing.{writtenAt}
 use Rattle.laws.proofs.Tests.{bool-cases}
@@ -15,7 +15,7 @@ use Rattle.laws.proofs.Digits.{digit, digits-cons, digits-none, length-digits, 
 use Rattle.laws.proofs.Writing.{write-step, rest-step}
 use Rattle.residues.specs.Alphabets.{isAmino, codeLimit}
 use Rattle.packets.specs.Runs.{endsRun, isFiveBit, codesIn, beforeFill, residues, onlyFill, validTailed, inner, final}
-use Rattle.packets.specs.Decoded.{putFirst, codesPut, residuesPut}
+use Rattle.packets.specs.Decoded.{putAt, codesPut, residuesPut}
 
 module _ (k n p : ℕ) (h : 0 < n) where
   pub below-next : (m : ℕ) → digit k (n - 1) p < m → allBelow m (digits k n p) ≡ allBelow m (digits k (n - 1) p)
@@ -155,43 +155,40 @@ residues-most p =
 
 -- ---- codes written
 
--- a turn of a loop that writes digits: n are left, and place i is the next
-module _ (k N p : ℕ) (d : List ℕ) (i n : ℕ) (out : List ℕ) (so-far : out ≡ paste d 0 (digits k N p) i)
+-- a turn of a loop that writes digits from a place on: n are left, and the one after i is the next
+module _ (k N p : ℕ) (d : List ℕ) (at i n : ℕ) (out : List ℕ) (so-far : out ≡ paste d at (digits k N p) i)
     (rest : drop i (digits k N p) ≡ digits k n p) (more : 0 < n) where
-  pub put-step : 0 + i < length d → set out (0 + i) (digit k (n - 1) p) ≡ paste d 0 (digits k N p) (i + 1)
+  pub put-step : at + i < length d → set out (at + i) (digit k (n - 1) p) ≡ paste d at (digits k N p) (i + 1)
   put-step room =
-      ap (λ (x : List ℕ). set x (0 + i) (digit k (n - 1) p)) so-far
-      ∙ write-step d 0 (digits k N p) i (digit k (n - 1) p) (digits k (n - 1) p) room (rest ∙ digits-cons k n p more)
+      ap (λ (x : List ℕ). set x (at + i) (digit k (n - 1) p)) so-far
+      ∙ write-step d at (digits k N p) i (digit k (n - 1) p) (digits k (n - 1) p) room (rest ∙ digits-cons k n p more)
 
   pub put-rest : drop (i + 1) (digits k N p) ≡ digits k (n - 1) p
   put-rest = rest-step (digits k N p) i (digit k (n - 1) p) (digits k (n - 1) p) (rest ∙ digits-cons k n p more)
 
-put-fits : (cs ds range : List ℕ) → ds ≡ cs → length ds ≤ length range → putFirst ds range ≡ writtenAt 0 cs range
-put-fits cs ds range e h = rw (le-leb (length ds) (length range) h, e)
-
-put-not : (ds range : List ℕ) → length range < length ds → putFirst ds range ≡ range
-put-not ds range h = rw (lt-leb (length ds) (length range) h)
-
-module _ (p : ℕ) (range : List ℕ) where
-  pub codes-put : (cs : List ℕ) → codesIn p ≡ cs → length cs ≤ length range → codesPut p range ≡ writtenAt 0 cs range
-  unfolding codesPut
-  codes-put cs e h = put-fits cs (codesIn p) range e (rw e h)
-
-  pub codes-lost : (cs : List ℕ) → codesIn p ≡ cs → length range < length cs → codesPut p range ≡ range
-  unfolding codesPut
-  codes-lost cs e h = put-not (codesIn p) range (rw e h)
-
-  pub residues-put : (cs : List ℕ) → residues p ≡ cs → length cs ≤ length range → residuesPut p range ≡ writtenAt 0 cs range
-  unfolding residuesPut
-  residues-put cs e h = put-fits cs (residues p) range e (rw e h)
-
-  pub residues-lost : (cs : List ℕ) → residues p ≡ cs → length range < length cs → residuesPut p range ≡ range
-  unfolding residuesPut
-  residues-lost cs e h = put-not (residues p) range (rw e h)
-
 -- the first digits written
-pub put-done : (k N p count : ℕ) (d : List ℕ) → count ≤ N → paste d 0 (digits k N p) count ≡ writtenAt 0 (take count (digits k N p)) d
-put-done k N p count d h = rw (length-take-le count (digits k N p) (rw (length-digits k N p) h))
+pub put-done : (k N p count at : ℕ) (d : List ℕ) → count ≤ N → paste d at (digits k N p) count ≡ writtenAt at (take count (digits k N p)) d
+put-done k N p count at d h = rw (length-take-le count (digits k N p) (rw (length-digits k N p) h))
 
-pub put-all : (k N p : ℕ) (d : List ℕ) → paste d 0 (digits k N p) N ≡ writtenAt 0 (digits k N p) d
-put-all k N p d = put-done k N p N d (omega arith) ∙ rw (take-all N (digits k N p) (rw (length-digits k N p) (omega arith)))
+put-fits : (cs ds : List ℕ) (at : ℕ) (range : List ℕ) → ds ≡ cs → at + length ds ≤ length range → putAt ds at range ≡ writtenAt at cs range
+put-fits cs ds at range e h = rw (le-leb (at + length ds) (length range) h, e)
+
+put-not : (ds : List ℕ) (at : ℕ) (range : List ℕ) → leb (at + length ds) (length range) ≡ false → putAt ds at range ≡ range
+put-not ds at range h = rw h
+
+module _ (p at : ℕ) (range : List ℕ) where
+  pub codes-put : (cs : List ℕ) → codesIn p ≡ cs → at + length cs ≤ length range → codesPut p at range ≡ writtenAt at cs range
+  unfolding codesPut
+  codes-put cs e h = put-fits cs (codesIn p) at range e (rw e h)
+
+  pub codes-lost : leb (at + length (codesIn p)) (length range) ≡ false → codesPut p at range ≡ range
+  unfolding codesPut
+  codes-lost h = put-not (codesIn p) at range h
+
+  pub residues-put : (cs : List ℕ) → residues p ≡ cs → at + length cs ≤ length range → residuesPut p at range ≡ writtenAt at cs range
+  unfolding residuesPut
+  residues-put cs e h = put-fits cs (residues p) at range e (rw e h)
+
+  pub residues-lost : leb (at + length (residues p)) (length range) ≡ false → residuesPut p at range ≡ range
+  unfolding residuesPut
+  residues-lost h = put-not (residues p) at range h

@@ -1,5 +1,6 @@
 pub mod Packing
 pub mod Codes
+pub mod Fours
 pub mod Filled
 pub mod Steps
 pub mod Packed

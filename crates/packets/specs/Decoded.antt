@@ -1,21 +1,21 @@
--- The codes of a packet written at the start of a lent range.
+-- The codes of a packet written into a lent range.
 -- Assumes nothing.
 use mathlib.Core.Bool.{cond}
 use mathlib.Core.List.{List}
-use Prim.Native.Nat.{ℕ}
+use Prim.Native.Nat.{ℕ, _+_}
 use lib.Dec.{leb}
 use lib.ListN.{length}
 use Rattle.laws.specs.Writing.{writtenAt}
 use Rattle.packets.specs.Runs.{codesIn, residues}
 
--- Some codes at the start of a range; as it was where they do not fit.
-abbrev pub putFirst : List ℕ → List ℕ → List ℕ
-putFirst codes range = cond (leb (length codes) (length range)) (writtenAt 0 codes range) range
+-- Some codes from a place of a range on; as it was where they do not fit.
+abbrev pub putAt : List ℕ → ℕ → List ℕ → List ℕ
+putAt codes at range = cond (leb (at + length codes) (length range)) (writtenAt at codes range) range
 
 -- All codes of a packet, those that are 31 among them.
-unfoldable pub codesPut : ℕ → List ℕ → List ℕ
-codesPut packet range = putFirst (codesIn packet) range
+unfoldable pub codesPut : ℕ → ℕ → List ℕ → List ℕ
+codesPut packet at range = putAt (codesIn packet) at range
 
 -- The residues of a packet.
-unfoldable pub residuesPut : ℕ → List ℕ → List ℕ
-residuesPut packet range = putFirst (residues packet) range
+unfoldable pub residuesPut : ℕ → ℕ → List ℕ → List ℕ
+residuesPut packet at range = putAt (residues packet) at range

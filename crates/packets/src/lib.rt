@@ -5,11 +5,12 @@ pub use encoding::encode;
 pub use encoding::sixes_of;
 pub use encoding::valid_codes;
 ghost use mathlib.Core.Path.{_≡_};
-ghost use Prim.Native.Nat.{_≤_};
-ghost use lib.Dec.{ltb};
+ghost use Prim.Native.Nat.{_+_, _≤_, _<_};
+ghost use lib.Dec.{leb, ltb};
 ghost use lib.ListN.{length, take};
 ghost use Rattle.laws.specs.Digits.{digits, allBelow};
 ghost use Rattle.laws.specs.Writing.{writtenAt};
+ghost use Rattle.fields.specs.Written.{littleBytes};
 ghost use Rattle.packets.specs.Positions.{byteOf};
 ghost use Rattle.packets.specs.Runs.{codesIn, beforeFill, residues, onlyFill, validTailed, inner, final};
 ghost use Rattle.packets.specs.Steps.{goneOn, closed, runStep, stateAfter, ended};
@@ -224,59 +225,78 @@ pub fn is_ended(state: RunState) -> bool
     }
 }
 
-// Writes the fifteen 2-bit codes of a packet.
-fn put_two(packet: u32, out: &mut [u8])
-    requires { ⌜ 15 ≤ length (now out) ⌝ }
-    ensures { λ _. ⌜ now (out .exit) ≡ writtenAt 0 (digits 2 15 packet) (now (out .entry)) ⌝ }
+// The four 2-bit codes of a byte as the bytes of a number, the first code in the lowest.
+fn four_codes(byte: u32) -> u32
+    requires { ⌜ byte < 256 ⌝ }
+    ensures codes { λ r. ⌜ littleBytes 4 r ≡ digits 2 4 byte ⌝ }
 {
-    let mut n: u32 = 15;
-    let mut i: usize = 0;
-    while n > 0 {
-        n -= 1;
-        out[i] = ((packet >> (2 * n)) % 4) as u8;
-        i += 1;
-    }
+    // the product moves each code to its byte, and the mask takes away what stands beside it
+    let spread = byte as u64 * 4299165700 / 256;
+    (spread & 50529027) as u32
 }
 
-// Writes the first 5-bit codes of a packet.
-fn put_first(packet: u32, count: usize, out: &mut [u8])
-    requires { ⌜ (count ≤ 6) × (count ≤ length (now out)) ⌝ }
-    ensures { λ _. ⌜ now (out .exit) ≡ writtenAt 0 (take count (digits 5 6 packet)) (now (out .entry)) ⌝ }
+// Writes the fifteen 2-bit codes of a packet from a place on, four at once. The last four begin with one that was written.
+fn put_two(packet: u32, out: &mut [u8], at: usize)
+    requires { ⌜ at + 15 ≤ length (now out) ⌝ }
+    ensures { λ _. ⌜ now (out .exit) ≡ writtenAt at (digits 2 15 packet) (now (out .entry)) ⌝ }
+{
+    fields::put_u32(out, at, four_codes((packet >> 22) % 256));
+    fields::put_u32(out, at + 4, four_codes((packet >> 14) % 256));
+    fields::put_u32(out, at + 8, four_codes((packet >> 6) % 256));
+    fields::put_u32(out, at + 11, four_codes(packet % 256));
+}
+
+// Writes the first 5-bit codes of a packet from a place on.
+fn put_first(packet: u32, count: usize, out: &mut [u8], at: usize)
+    requires { ⌜ (count ≤ 6) × (at + count ≤ length (now out)) ⌝ }
+    ensures { λ _. ⌜ now (out .exit) ≡ writtenAt at (take count (digits 5 6 packet)) (now (out .entry)) ⌝ }
 {
     let mut n: u32 = 6;
     let mut i: usize = 0;
     while i < count {
         n -= 1;
-        out[i] = ((packet >> (5 * n)) % 32) as u8;
+        out[at + i] = ((packet >> (5 * n)) % 32) as u8;
         i += 1;
     }
 }
 
-// Writes the codes of a packet at the start of the output, those that are 31 among them; nothing where they do not fit.
-pub fn decode_codes(packet: u32, out: &mut [u8])
-    ensures { λ _. ⌜ now (out .exit) ≡ codesPut packet (now (out .entry)) ⌝ }
+// Whether so many places from one on lie within a range of so much room.
+fn has_room(room: usize, at: usize, count: usize) -> bool
+    ensures { λ r. ⌜ r ≡ leb (at + count) room ⌝ }
 {
-    if out.len() < code_count(packet) {
-        return;
+    if room < at {
+        return false;
     }
-    if packet / 1073741824 % 2 == 1 {
-        put_first(packet, 6, out);
-        return;
-    }
-    put_two(packet, out);
+    count <= room - at
 }
 
-// Writes the residues of a packet at the start of the output; nothing where they do not fit.
-pub fn decode(packet: u32, out: &mut [u8])
-    ensures { λ _. ⌜ now (out .exit) ≡ residuesPut packet (now (out .entry)) ⌝ }
+// Writes the codes of a packet from a place of the output on, those that are 31 among them; nothing where they do not fit.
+pub fn decode_codes(packet: u32, out: &mut [u8], at: usize)
+    ensures { λ _. ⌜ now (out .exit) ≡ codesPut packet at (now (out .entry)) ⌝ }
 {
-    let count = residue_count(packet);
-    if out.len() < count {
-        return;
-    }
     if packet / 1073741824 % 2 == 1 {
-        put_first(packet, count, out);
+        if has_room(out.len(), at, 6) {
+            put_first(packet, 6, out, at);
+        }
         return;
     }
-    put_two(packet, out);
+    if has_room(out.len(), at, 15) {
+        put_two(packet, out, at);
+    }
+}
+
+// Writes the residues of a packet from a place of the output on; nothing where they do not fit.
+pub fn decode(packet: u32, out: &mut [u8], at: usize)
+    ensures { λ _. ⌜ now (out .exit) ≡ residuesPut packet at (now (out .entry)) ⌝ }
+{
+    if packet / 1073741824 % 2 == 1 {
+        let count = count_before(packet);
+        if has_room(out.len(), at, count) {
+            put_first(packet, count, out, at);
+        }
+        return;
+    }
+    if has_room(out.len(), at, 15) {
+        put_two(packet, out, at);
+    }
 }

@@ -1,36 +1,15 @@
 -- The residues of a well-formed run, written packet by packet. Assumes nothing.
-use mathlib.Core.Path.{_≡_, refl, sym, ap, _∙_}
+use mathlib.Core.Path.{_≡_, sym, ap, _∙_}
 use mathlib.Core.Bool.{true}
 use mathlib.Core.List.{List, [], _++_}
 use Prim.Native.Nat.{ℕ, _+_, _-_, _≤_, _<_}
 use native.Mathlib.Omega.{arith}
-use borrow.Rule.Slice.PartMut.{putMid, midOf}
 use lib.ListN.{length, drop, getD, length-drop, length-append}
 use lib.Seq.{paste}
 use Rattle.laws.specs.Writing.{writtenAt}
-use Rattle.laws.proofs.Parts.{part-rest, part-written}
 use Rattle.laws.proofs.Writing.{paste-whole, paste-part, rest-part}
 use Rattle.packets.specs.Runs.{codesIn, residues, wellFormed, unpacked}
-use Rattle.packets.specs.Decoded.{codesPut, residuesPut}
-use Rattle.packets.proofs.Codes.{codes-put, residues-put}
 use Rattle.packets.proofs.Shapes.{inner-codes, well-inner, unpacked-from, unpacked-end}
-
--- the codes, or the residues, of a packet written from a place on
-part-length : (out : List ℕ) (at : ℕ) → length (midOf at (length out - at) out) ≡ length out - at
-part-length out at = ap length (part-rest out at) ∙ length-drop at out
-
-module _ (p : ℕ) (out : List ℕ) (at : ℕ) (part : List ℕ) where
-  pub part-codes : at + length (codesIn p) ≤ length out → part ≡ codesPut p (midOf at (length out - at) out)
-      → putMid at (length out - at) out part ≡ writtenAt at (codesIn p) out
-  part-codes h e =
-      part-written out at part (codesIn p) h
-      (e ∙ codes-put p (midOf at (length out - at) out) (codesIn p) refl (omega (arith, part-length out at)))
-
-  pub part-residues : at + length (residues p) ≤ length out → part ≡ residuesPut p (midOf at (length out - at) out)
-      → putMid at (length out - at) out part ≡ writtenAt at (residues p) out
-  part-residues h e =
-      part-written out at part (residues p) h
-      (e ∙ residues-put p (midOf at (length out - at) out) (residues p) refl (omega (arith, part-length out at)))
 
 -- a part xs of U written behind what is written so far; d is the output at first
 module _ (d U : List ℕ) (at : ℕ) (out : List ℕ) (so-far : out ≡ paste d 0 U at) (low : at ≤ length U) (xs rest : List ℕ) (e : drop at U ≡ xs ++ rest) where

@@ -7,9 +7,6 @@ use native.Mathlib.Nat.{mod-eq-of-lt}
 use native.Mathlib.Omega.{arith}
 use lib.ListN.{length, take, drop, set, length-drop}
 use lib.Seq.{paste, drop-drop}
-use lib.Dec.{leb}
-use borrow.Author.Tests.{le-leb, lt-leb, leb-true, leb-false}
-use Rattle.laws.proofs.Tests.{bool-cases}
 use Rattle.laws.specs.Writing.{writtenAt}
 use Rattle.laws.proofs.Parts.{part-rest}
 use Rattle.laws.proofs.Writing.{paste-whole, write-step, rest-step}
@@ -72,10 +69,3 @@ module _ (R d : List ℕ) (place count : ℕ) (out : List ℕ) (so-far : out ≡
 
   pub store-ends : more ≡ [] → set out (place + count) p ≡ writtenAt place R d
   store-ends e = store-goes ∙ (rw (store-count e) (paste-whole place R d))
-
--- room behind a place
-pub fits-behind : (place n room : ℕ) → place ≤ room → leb n (room - place) ≡ leb (place + n) room
-fits-behind place n room h =
-    bool-cases (leb n (room - place))
-    (λ e. e ∙ sym (le-leb (place + n) room (omega (arith, leb-true n (room - place) e))))
-    (λ e. e ∙ sym (lt-leb (place + n) room (omega (arith, leb-false n (room - place) e))))

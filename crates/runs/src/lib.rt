@@ -209,11 +209,11 @@ fn write_residues(alphabet: u32, packets: &[u32], out: &mut [u8])
     let mut i: usize = 0;
     while i < last {
         let packet = packets[i];
-        packets::decode_codes(packet, &mut out[at..]);
+        packets::decode_codes(packet, out, at);
         at += packets::code_count(packet);
         i += 1;
     }
-    packets::decode(packets[last], &mut out[at..]);
+    packets::decode(packets[last], out, at);
 }
 
 // Unpacks a run: writes its residues at the start of the output.

@@ -1,57 +1,90 @@
--- `packets::decode`: by the room and by bit 30. Assumes nothing.
-use mathlib.Core.Path.{_≡_, refl, sym, ap, _∙_}
-use Prim.Native.Nat.{_-_}
+-- `packets::decode`: by bit 30 and by the room. Assumes nothing.
+use mathlib.Core.Path.{_≡_, sym, ap, _∙_}
+use Prim.Native.Nat.{ℕ, _+_, _≤_}
 use native.Mathlib.Omega.{arith}
+use borrow.Author.Tests.{leb-true}
 use denote.Ref.{now}
+use lib.Dec.{leb}
 use lib.ListN.{length, take}
-use Rattle.laws.proofs.Digits.{length-digits}
 use Rattle.laws.specs.Digits.{digits}
-use Rattle.packets.specs.Runs.{residues, beforeFill}
+use Rattle.laws.proofs.Digits.{length-digits}
+use Rattle.packets.specs.Runs.{residues}
 use Rattle.packets.proofs.Codes.{before-le, before-prefix, residues-five, residues-two, residues-put, residues-lost}
 use borrow.Author.Needs.{needs}
 use Rattle.packets.proofs.decode.Statement.{statement}
 use Rattle.packets.proofs.decode.Tie as tie
 
-residue-count-requires : tie.Need-residue-count-requires
-residue-count-requires c κs = search needs
+count-before-requires : tie.Need-count-before-requires
+count-before-requires c κs = search needs
 
-returns : tie.Need-returns
-returns c = sym (residues-lost ((c .before .before .before .args) .packet) (now ((c .before .before .before .args) .out)) (residues ((c .before .before .before .args) .packet)) refl (omega (arith, (c .before .residue-count) .ensures)))
+has-room-requires : tie.Need-has-room-requires
+has-room-requires c κs = search needs
 
 put-first-requires : tie.Need-put-first-requires
-put-first-requires c κs = let p = (c .before .before .before .before .before .args) .packet in
-    let e = ap length (residues-five p ((c .before .if2) .taken)) in
-    (omega (arith, e, (c .before .before .before .residue-count) .ensures, before-le (digits 5 6 p), length-digits 5 6 p), omega arith)
+put-first-requires c κs = let a = (c .before .before .before .before .before .before .args) in
+    let p = a .packet in
+    let out = now (a .out) in
+    let r : a .at + (c .before .before .before .count-before) .result ≤ length out = leb-true _ _ (sym ((c .before .before .has-room) .ensures) ∙ (c .before .if2) .taken) in
+    (omega (arith, (c .before .before .before .count-before) .ensures, before-le (digits 5 6 p), length-digits 5 6 p), r)
 
 same-length : tie.Need-same-length
 same-length c = search needs
 
+returns : tie.Need-returns
+returns c = let a = (c .before .before .before .before .before .before .before .before .before .args) in
+    let p = a .packet in
+    let out = now (a .out) in
+    let r : a .at + (c .before .before .before .before .before .before .count-before) .result ≤ length out = leb-true _ _ (sym ((c .before .before .before .before .before .has-room) .ensures) ∙ (c .before .before .before .before .if2) .taken) in
+    let m : length (residues p) ≡ (c .before .before .before .before .before .before .count-before) .result = ap length (residues-five p ((c .before .before .before .before .before .before .before .if1) .taken)) ∙ sym ((c .before .before .before .before .before .before .count-before) .ensures) in
+    let e : residues p ≡ take ((c .before .before .before .before .before .before .count-before) .result) (digits 5 6 p) = residues-five p ((c .before .before .before .before .before .before .before .if1) .taken) ∙ rw ((c .before .before .before .before .before .before .count-before) .ensures) (sym (before-prefix (digits 5 6 p))) in
+    (c .before .before .put-first) .ensures ∙ sym (residues-put p (a .at) out (take ((c .before .before .before .before .before .before .count-before) .result) (digits 5 6 p)) e (omega (arith, ap length e)))
+
 returns-2 : tie.Need-returns-2
-returns-2 c = let p = (c .before .before .before .before .before .before .before .before .args) .packet in
-    let n : (c .before .before .before .before .before .before .residue-count) .result ≡ length (beforeFill (digits 5 6 p)) = (c .before .before .before .before .before .before .residue-count) .ensures ∙ ap length (residues-five p ((c .before .before .before .before .if2) .taken)) in
-    let e : residues p ≡ take ((c .before .before .before .before .before .before .residue-count) .result) (digits 5 6 p) = residues-five p ((c .before .before .before .before .if2) .taken) ∙ rw n (sym (before-prefix (digits 5 6 p))) in
-    (c .before .before .put-first) .ensures ∙ sym (residues-put p (now ((c .before .before .before .before .before .before .before .before .args) .out)) (take ((c .before .before .before .before .before .before .residue-count) .result) (digits 5 6 p)) e (omega (arith, ap length e, (c .before .before .before .before .before .before .residue-count) .ensures)))
+returns-2 c = let a = (c .before .before .before .before .before .args) in
+    let p = a .packet in
+    let out = now (a .out) in
+    let m : length (residues p) ≡ (c .before .before .count-before) .result = ap length (residues-five p ((c .before .before .before .if1) .taken)) ∙ sym ((c .before .before .count-before) .ensures) in
+    sym (residues-lost p (a .at) out (ap (λ (n : ℕ). leb (a .at + n) (length out)) (m) ∙ (sym ((c .before .has-room) .ensures) ∙ (c .if2) .left)))
+
+has-room-requires-2 : tie.Need-has-room-requires-2
+has-room-requires-2 c κs = search needs
 
 put-two-requires : tie.Need-put-two-requires
-put-two-requires c κs = let l = ap length (residues-two ((c .before .before .before .before .before .args) .packet) ((c .before .if2) .left)) ∙ length-digits 2 15 ((c .before .before .before .before .before .args) .packet) in omega (arith, l, (c .before .before .before .residue-count) .ensures)
+put-two-requires c κs = let a = (c .before .before .before .before .before .args) in
+    let p = a .packet in
+    let out = now (a .out) in
+    let r : a .at + 15 ≤ length out = leb-true _ _ (sym ((c .before .before .has-room2) .ensures) ∙ (c .before .if3) .taken) in
+    r
 
 same-length-2 : tie.Need-same-length-2
 same-length-2 c = search needs
 
 returns-3 : tie.Need-returns-3
-returns-3 c = let p = (c .before .before .before .before .before .before .before .before .args) .packet in
-    let e = residues-two p ((c .before .before .before .before .if2) .left) in
-    (c .before .before .put-two) .ensures ∙ sym (residues-put p (now ((c .before .before .before .before .before .before .before .before .args) .out)) (digits 2 15 p) e (omega (arith, ap length e, (c .before .before .before .before .before .before .residue-count) .ensures)))
+returns-3 c = let a = (c .before .before .before .before .before .before .before .before .args) in
+    let p = a .packet in
+    let out = now (a .out) in
+    let r : a .at + 15 ≤ length out = leb-true _ _ (sym ((c .before .before .before .before .before .has-room2) .ensures) ∙ (c .before .before .before .before .if3) .taken) in
+    let e = residues-two p ((c .before .before .before .before .before .before .if1) .left) in
+    (c .before .before .put-two) .ensures ∙ sym (residues-put p (a .at) out (digits 2 15 p) e (omega (arith, length-digits 2 15 p)))
+
+returns-4 : tie.Need-returns-4
+returns-4 c = let a = (c .before .before .before .before .args) in
+    let p = a .packet in
+    let out = now (a .out) in
+    sym (residues-lost p (a .at) out (ap (λ (n : ℕ). leb (a .at + n) (length out)) (ap length (residues-two p ((c .before .before .if1) .left)) ∙ length-digits 2 15 p) ∙ (sym ((c .before .has-room2) .ensures) ∙ (c .if3) .left)))
 
 pub decode-spec : {M : Type 1} → statement M
 decode-spec =
     tie.close
     (tie.spec
-    residue-count-requires
-    returns
+    count-before-requires
+    has-room-requires
     put-first-requires
     same-length
+    returns
     returns-2
+    has-room-requires-2
     put-two-requires
     same-length-2
-    returns-3)
+    returns-3
+    returns-4)

@@ -1,77 +1,75 @@
--- `packets::put_two`: the codes written so far and those still to write are the digits of the packet. Assumes nothing.
-use mathlib.Core.Path.{_≡_, refl, _∙_}
-use Prim.Native.Nat.{_-_, _+_}
-use native.Mathlib.Omega.{arith}
-use lib.ListN.{length, drop, length-set}
-use lib.Seq.{paste, paste-zero}
-use native.Mathlib.Nat.{zero-add}
+-- `packets::put_two`: four numbers of four codes each. Assumes nothing.
+use mathlib.Core.Path.{ap, _∙_}
+use mathlib.Core.List.{List}
+use Prim.Native.Nat.{ℕ, _+_}
 use denote.Ref.{now}
-use Rattle.laws.specs.Digits.{digits}
-use Rattle.packets.proofs.Codes.{put-step, put-rest, put-all}
+use Rattle.fields.specs.Written.{numberPut}
+use Rattle.packets.proofs.Fours.{fours-written}
 use borrow.Author.Needs.{needs}
 use Rattle.packets.proofs.put_two.Statement.{statement}
 use Rattle.packets.proofs.put_two.Tie as tie
 
-abbrev Inv-loop : tie.InvT-loop
-Inv-loop packet out₀ n₀ i₀ out n i = (i + n ≡ 15) × (length out ≡ length out₀) × (out ≡ paste out₀ 0 (digits 2 15 packet) i) × (drop i (digits 2 15 packet) ≡ digits 2 n packet)
+four-codes-requires : tie.Need-four-codes-requires
+four-codes-requires c κs = search needs
 
-abbrev μ-loop : tie.MeasureT-loop
-μ-loop packet out₀ n₀ i₀ out n i = n
+put-u32-requires : tie.Need-put-u32-requires
+put-u32-requires c κs = search needs
 
-loop-holds : tie.Need-loop-holds Inv-loop μ-loop
-loop-holds c = (omega arith, refl, paste-zero (now ((c .args) .out)) 0 (digits 2 15 ((c .args) .packet)), refl)
+add-put-u32 : tie.Need-add-put-u32
+add-put-u32 c = search needs
 
-sub-n : tie.Need-sub-n Inv-loop μ-loop
-sub-n c = search needs
+four-codes-requires-2 : tie.Need-four-codes-requires-2
+four-codes-requires-2 c κs = search needs
 
-mul-out : tie.Need-mul-out Inv-loop μ-loop
-mul-out c = search needs
+put-u32-requires-2 : tie.Need-put-u32-requires-2
+put-u32-requires-2 c κs = search needs
 
-shr-out : tie.Need-shr-out Inv-loop μ-loop
-shr-out c = search needs
+add-put-u32-2 : tie.Need-add-put-u32-2
+add-put-u32-2 c = search needs
 
-cast-out : tie.Need-cast-out Inv-loop μ-loop
-cast-out c = search needs
+four-codes-requires-3 : tie.Need-four-codes-requires-3
+four-codes-requires-3 c κs = search needs
 
-slice-write-out : tie.Need-slice-write-out Inv-loop μ-loop
-slice-write-out c = search needs
+put-u32-requires-3 : tie.Need-put-u32-requires-3
+put-u32-requires-3 c κs = search needs
 
-add-i : tie.Need-add-i Inv-loop μ-loop
-add-i c = search needs
+add-put-u32-3 : tie.Need-add-put-u32-3
+add-put-u32-3 c = search needs
 
-loop-less : tie.Need-loop-less Inv-loop μ-loop
-loop-less c = search needs
+four-codes-requires-4 : tie.Need-four-codes-requires-4
+four-codes-requires-4 c κs = search needs
 
-loop-again : tie.Need-loop-again Inv-loop μ-loop
-loop-again c = let l = (c .before .loop) in
-    let a = (c .before .before .args) in
-    let z : 0 + l .i ≡ l .i = zero-add (l .i) in
-    let w = put-step 2 15 (a .packet) (now (a .out)) (l .i) (l .n) (l .out) (l .inv .2) (l .inv .3) ((c .loop-test) .taken) (omega arith) in
-    (omega arith, simp length-set (l .inv .1), rw z at w, put-rest 2 15 (a .packet) (now (a .out)) (l .i) (l .n) (l .out) (l .inv .2) (l .inv .3) ((c .loop-test) .taken))
+put-u32-requires-4 : tie.Need-put-u32-requires-4
+put-u32-requires-4 c κs = search needs
 
-same-length : tie.Need-same-length Inv-loop μ-loop
-same-length c = (c .before .loop) .inv .1
+same-length : tie.Need-same-length
+same-length c = search needs
 
-returns : tie.Need-returns Inv-loop μ-loop
-returns c = let l = (c .before .loop) in
-    let a = (c .before .before .args) in
-    let e : l .i ≡ 15 = omega arith in
-    l .inv .2 ∙ rw e (put-all 2 15 (a .packet) (now (a .out)))
+returns : tie.Need-returns
+returns c = let a = (c .before .before .before .before .before .before .before .before .before .before .before .before .before .before .before .before .before .before .before .before .before .args) in
+    let x₁ = (c .before .before .before .before .before .before .before .before .before .before .before .before .before .before .before .before .before .before .four-codes) in
+    let x₂ = (c .before .before .before .before .before .before .before .before .before .before .before .before .before .four-codes2) in
+    let x₃ = (c .before .before .before .before .before .before .before .before .four-codes3) in
+    let x₄ = (c .before .before .before .four-codes4) in
+    (c .before .before .put-u324) .ensures
+    ∙ ap (λ (l : List ℕ). numberPut 4 (a .at + 11) (x₄ .result) l)
+    ((c .before .before .before .before .before .before .before .put-u323) .ensures ∙ ap (λ (l : List ℕ). numberPut 4 (a .at + 8) (x₃ .result) l) ((c .before .before .before .before .before .before .before .before .before .before .before .before .put-u322) .ensures ∙ ap (λ (l : List ℕ). numberPut 4 (a .at + 4) (x₂ .result) l) ((c .before .before .before .before .before .before .before .before .before .before .before .before .before .before .before .before .before .put-u32) .ensures)))
+    ∙ fours-written (a .at) (now (a .out)) (a .packet) (x₁ .result) (x₂ .result) (x₃ .result) (x₄ .result) ((c .before .before .before .before .before .before .before .before .before .before .before .before .before .before .before .before .before .before .before .before .before .pre)) (x₁ .ensures) (x₂ .ensures) (x₃ .ensures) (x₄ .ensures)
 
 pub put-two-spec : {M : Type 1} → statement M
 put-two-spec =
     tie.close
     (tie.spec
-    Inv-loop
-    μ-loop
-    loop-holds
-    sub-n
-    mul-out
-    shr-out
-    cast-out
-    slice-write-out
-    add-i
-    loop-less
-    loop-again
+    four-codes-requires
+    put-u32-requires
+    add-put-u32
+    four-codes-requires-2
+    put-u32-requires-2
+    add-put-u32-2
+    four-codes-requires-3
+    put-u32-requires-3
+    add-put-u32-3
+    four-codes-requires-4
+    put-u32-requires-4
     same-length
     returns)

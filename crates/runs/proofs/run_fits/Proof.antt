@@ -8,7 +8,7 @@ use borrow.Author.Tests.{le-leb, lt-leb}
 use Rattle.packets.specs.Packing.{run}
 use Rattle.packets.proofs.Lengths.{run-most}
 use Rattle.packets.proofs.Packing.{run-some}
-use Rattle.runs.proofs.Turns.{fits-behind}
+use Rattle.laws.proofs.Numbers.{fits-behind}
 use borrow.Author.Needs.{needs}
 use Rattle.runs.proofs.run_fits.Statement.{statement}
 use Rattle.runs.proofs.run_fits.Tie as tie

@@ -1,62 +1,49 @@
 -- `runs::write_residues`: the residues written so far, and those of the packets still to read. Assumes nothing.
-use lib.ListN.{length, drop, getD}
-use lib.Seq.{paste, paste-zero}
-use mathlib.Core.List.{_++_}
-use denote.Ref.{now}
-use Rattle.packets.specs.Runs.{codesIn, residues, unpacked}
-use Rattle.packets.proofs.Shapes.{well-some}
-use Rattle.runs.proofs.Counts.{part-codes, part-residues, part-within, part-goes, part-behind, part-ends, inner-from, last-from}
 use mathlib.Core.Path.{_≡_, refl, _∙_}
+use mathlib.Core.List.{_++_}
 use Prim.Native.Nat.{_≤_, _-_, _+_}
 use native.Mathlib.Omega.{arith}
+use lib.ListN.{length, drop, getD}
+use lib.Seq.{paste, paste-zero}
+use denote.Ref.{now}
+use Rattle.packets.specs.Runs.{codesIn, residues, unpacked}
+use Rattle.packets.proofs.Codes.{codes-put, residues-put}
+use Rattle.packets.proofs.Shapes.{well-some}
+use Rattle.runs.proofs.Counts.{part-within, part-goes, part-behind, part-ends, inner-from, last-from}
 use borrow.Author.Needs.{needs}
 use Rattle.runs.proofs.write_residues.Statement.{statement}
 use Rattle.runs.proofs.write_residues.Tie as tie
 
 abbrev Inv-loop : tie.InvT-loop
-Inv-loop alphabet packets out₀ last at₀ i₀ out at i = (i ≤ last) × (last + 1 ≡ length packets) × (length out ≡ length out₀) × (at ≤ length (unpacked packets)) × (out ≡ paste out₀ 0 (unpacked packets) at) × (drop at (unpacked packets) ≡ unpacked (drop i packets))
+Inv-loop alphabet packets out₀ last at₀ i₀ out at i = (i ≤ last)
+    × (last + 1 ≡ length packets)
+    × (length out ≡ length out₀)
+    × (at ≤ length (unpacked packets))
+    × (out ≡ paste out₀ 0 (unpacked packets) at)
+    × (drop at (unpacked packets) ≡ unpacked (drop i packets))
 
 abbrev μ-loop : tie.MeasureT-loop
 μ-loop alphabet packets out₀ last at₀ i₀ out at i = last - i
 
 sub-last : tie.Need-sub-last Inv-loop μ-loop
-sub-last c = omega (arith, well-some ((c .before .before .args) .alphabet) (now ((c .before .before .args) .packets)) ((c .before .before .pre) .0))
+sub-last c = let a = (c .before .before .args) .alphabet in
+    let ps = now ((c .before .before .args) .packets) in
+    let U = unpacked ps in
+    let d = now ((c .before .before .args) .out) in
+    omega (arith, well-some a ps ((c .before .before .pre) .0))
 
 loop-holds : tie.Need-loop-holds Inv-loop μ-loop
-loop-holds c = (omega arith, omega (arith, well-some ((c .before .before .args) .alphabet) (now ((c .before .before .args) .packets)) ((c .before .before .pre) .0)), refl, omega arith, paste-zero (now ((c .before .before .args) .out)) 0 (unpacked (now ((c .before .before .args) .packets))), refl)
+loop-holds c = let a = (c .before .before .args) .alphabet in
+    let ps = now ((c .before .before .args) .packets) in
+    let U = unpacked ps in
+    let d = now ((c .before .before .args) .out) in
+    (omega arith, omega (arith, well-some a ps ((c .before .before .pre) .0)), refl, omega arith, paste-zero d 0 U, refl)
 
 mul-packet : tie.Need-mul-packet Inv-loop μ-loop
 mul-packet c = search needs
 
 shared-slice-read-packet : tie.Need-shared-slice-read-packet Inv-loop μ-loop
 shared-slice-read-packet c = search needs
-
-sub-decode-codes : tie.Need-sub-decode-codes Inv-loop μ-loop
-sub-decode-codes c = let l = (c .before .before .loop) in
-    let a = (c .before .before .before .before .before .args) .alphabet in
-    let ps = now ((c .before .before .before .before .before .args) .packets) in
-    let U = unpacked ps in
-    let d = now ((c .before .before .before .before .before .args) .out) in
-    let p = getD ps (l .i) 0 in
-    let rest = unpacked (drop (l .i + 1) ps) in
-    let f : drop (l .at) U ≡ codesIn p ++ rest = l .inv .5 ∙ inner-from a ps ((c .before .before .before .before .before .pre) .0) (l .i) (omega arith) in
-    let w = part-within d U (l .at) (l .out) (l .inv .4) (l .inv .3) (codesIn p) rest f in
-    omega (arith, (c .before .before .before .before .before .pre) .1)
-
-part-decode-codes-start : tie.Need-part-decode-codes-start Inv-loop μ-loop
-part-decode-codes-start c = let l = (c .before .before .loop) in
-    let a = (c .before .before .before .before .before .args) .alphabet in
-    let ps = now ((c .before .before .before .before .before .args) .packets) in
-    let U = unpacked ps in
-    let d = now ((c .before .before .before .before .before .args) .out) in
-    let p = getD ps (l .i) 0 in
-    let rest = unpacked (drop (l .i + 1) ps) in
-    let f : drop (l .at) U ≡ codesIn p ++ rest = l .inv .5 ∙ inner-from a ps ((c .before .before .before .before .before .pre) .0) (l .i) (omega arith) in
-    let w = part-within d U (l .at) (l .out) (l .inv .4) (l .inv .3) (codesIn p) rest f in
-    omega (arith, (c .before .before .before .before .before .pre) .1)
-
-part-decode-codes-end : tie.Need-part-decode-codes-end Inv-loop μ-loop
-part-decode-codes-end c = search needs
 
 decode-codes-requires : tie.Need-decode-codes-requires Inv-loop μ-loop
 decode-codes-requires c κs = search needs
@@ -65,16 +52,17 @@ code-count-requires : tie.Need-code-count-requires Inv-loop μ-loop
 code-count-requires c κs = search needs
 
 add-at : tie.Need-add-at Inv-loop μ-loop
-add-at c = let l = (c .before .before .before .before .before .before .before .loop) in
-    let a = (c .before .before .before .before .before .before .before .before .before .before .args) .alphabet in
+add-at c = let a = (c .before .before .before .before .before .before .before .before .before .before .args) .alphabet in
     let ps = now ((c .before .before .before .before .before .before .before .before .before .before .args) .packets) in
     let U = unpacked ps in
     let d = now ((c .before .before .before .before .before .before .before .before .before .before .args) .out) in
+    let l = (c .before .before .before .before .before .before .before .loop) in
     let p = getD ps (l .i) 0 in
     let rest = unpacked (drop (l .i + 1) ps) in
     let f : drop (l .at) U ≡ codesIn p ++ rest = l .inv .5 ∙ inner-from a ps ((c .before .before .before .before .before .before .before .before .before .before .pre) .0) (l .i) (omega arith) in
     let w = part-within d U (l .at) (l .out) (l .inv .4) (l .inv .3) (codesIn p) rest f in
-    omega (arith, (c .before .before .before .before .before .before .before .before .before .before .pre) .1, (c .code-count) .ensures)
+    let k : (c .code-count) .result ≡ length (codesIn p) = (c .code-count) .ensures in
+    omega (arith, (c .before .before .before .before .before .before .before .before .before .before .pre) .1)
 
 add-i : tie.Need-add-i Inv-loop μ-loop
 add-i c = search needs
@@ -83,19 +71,19 @@ loop-less : tie.Need-loop-less Inv-loop μ-loop
 loop-less c = search needs
 
 loop-again : tie.Need-loop-again Inv-loop μ-loop
-loop-again c = let l = (c .before .before .before .before .before .before .before .loop) in
-    let a = (c .before .before .before .before .before .before .before .before .before .before .args) .alphabet in
+loop-again c = let a = (c .before .before .before .before .before .before .before .before .before .before .args) .alphabet in
     let ps = now ((c .before .before .before .before .before .before .before .before .before .before .args) .packets) in
     let U = unpacked ps in
     let d = now ((c .before .before .before .before .before .before .before .before .before .before .args) .out) in
+    let l = (c .before .before .before .before .before .before .before .loop) in
     let p = getD ps (l .i) 0 in
     let rest = unpacked (drop (l .i + 1) ps) in
     let f : drop (l .at) U ≡ codesIn p ++ rest = l .inv .5 ∙ inner-from a ps ((c .before .before .before .before .before .before .before .before .before .before .pre) .0) (l .i) (omega arith) in
     let w = part-within d U (l .at) (l .out) (l .inv .4) (l .inv .3) (codesIn p) rest f in
-    let o = part-codes p (l .out) (l .at) ((c .before .before .before .decode-codes) .last .1 .0) (omega (arith, (c .before .before .before .before .before .before .before .before .before .before .pre) .1)) ((c .before .before .before .decode-codes) .ensures) in
-    let g = part-goes d U (l .at) (l .out) (l .inv .4) (l .inv .3) (codesIn p) rest f in
     let k : (c .code-count) .result ≡ length (codesIn p) = (c .code-count) .ensures in
-    (omega arith, l .inv .1, (c .before .before .out) .given .1 ∙ l .inv .2, omega arith, rw k (o ∙ g), rw k (part-behind d U (l .at) (l .out) (l .inv .4) (l .inv .3) (codesIn p) rest f))
+    let o = (c .before .before .before .decode-codes) .ensures ∙ (codes-put p (l .at) (l .out) (codesIn p) refl (omega (arith, (c .before .before .before .before .before .before .before .before .before .before .pre) .1))) in
+    let g = part-goes d U (l .at) (l .out) (l .inv .4) (l .inv .3) (codesIn p) rest f in
+    (omega arith, l .inv .1, (c .before .before .out) .given ∙ l .inv .2, omega arith, rw k (o ∙ g), rw k (part-behind d U (l .at) (l .out) (l .inv .4) (l .inv .3) (codesIn p) rest f))
 
 mul-decode : tie.Need-mul-decode Inv-loop μ-loop
 mul-decode c = search needs
@@ -103,59 +91,27 @@ mul-decode c = search needs
 shared-slice-read-decode : tie.Need-shared-slice-read-decode Inv-loop μ-loop
 shared-slice-read-decode c = search needs
 
-sub-decode : tie.Need-sub-decode Inv-loop μ-loop
-sub-decode c = let l = (c .before .before .loop) in
-    let a = (c .before .before .before .before .before .args) .alphabet in
-    let ps = now ((c .before .before .before .before .before .args) .packets) in
-    let U = unpacked ps in
-    let d = now ((c .before .before .before .before .before .args) .out) in
-    let z = well-some a ps ((c .before .before .before .before .before .pre) .0) in
-    let n : l .i ≡ length ps - 1 = omega arith in
-    let p = getD ps (length ps - 1) 0 in
-    let q = last-from a ps ((c .before .before .before .before .before .pre) .0) (length ps - 1) (omega arith) in
-    let rest = unpacked (drop (length ps - 1 + 1) ps) in
-    let f : drop (l .at) U ≡ residues p ++ rest = l .inv .5 ∙ rw n (q .0) in
-    let w = part-within d U (l .at) (l .out) (l .inv .4) (l .inv .3) (residues p) rest f in
-    omega (arith, (c .before .before .before .before .before .pre) .1)
-
-part-decode-start : tie.Need-part-decode-start Inv-loop μ-loop
-part-decode-start c = let l = (c .before .before .loop) in
-    let a = (c .before .before .before .before .before .args) .alphabet in
-    let ps = now ((c .before .before .before .before .before .args) .packets) in
-    let U = unpacked ps in
-    let d = now ((c .before .before .before .before .before .args) .out) in
-    let z = well-some a ps ((c .before .before .before .before .before .pre) .0) in
-    let n : l .i ≡ length ps - 1 = omega arith in
-    let p = getD ps (length ps - 1) 0 in
-    let q = last-from a ps ((c .before .before .before .before .before .pre) .0) (length ps - 1) (omega arith) in
-    let rest = unpacked (drop (length ps - 1 + 1) ps) in
-    let f : drop (l .at) U ≡ residues p ++ rest = l .inv .5 ∙ rw n (q .0) in
-    let w = part-within d U (l .at) (l .out) (l .inv .4) (l .inv .3) (residues p) rest f in
-    omega (arith, (c .before .before .before .before .before .pre) .1)
-
-part-decode-end : tie.Need-part-decode-end Inv-loop μ-loop
-part-decode-end c = search needs
-
 decode-requires : tie.Need-decode-requires Inv-loop μ-loop
 decode-requires c κs = search needs
 
 same-length : tie.Need-same-length Inv-loop μ-loop
-same-length c = (c .before .out2) .given .1 ∙ (c .before .before .before .before .before .before .loop) .inv .2
+same-length c = (c .before .out2) .given ∙ (c .before .before .before .before .before .before .loop) .inv .2
 
 returns : tie.Need-returns Inv-loop μ-loop
-returns c = let l = (c .before .before .before .before .before .before .loop) in
-    let a = (c .before .before .before .before .before .before .before .before .before .args) .alphabet in
+returns c = let a = (c .before .before .before .before .before .before .before .before .before .args) .alphabet in
     let ps = now ((c .before .before .before .before .before .before .before .before .before .args) .packets) in
     let U = unpacked ps in
     let d = now ((c .before .before .before .before .before .before .before .before .before .args) .out) in
+    let l = (c .before .before .before .before .before .before .loop) in
     let z = well-some a ps ((c .before .before .before .before .before .before .before .before .before .pre) .0) in
-    let n : l .i ≡ length ps - 1 = omega arith in
-    let p = getD ps (length ps - 1) 0 in
-    let q = last-from a ps ((c .before .before .before .before .before .before .before .before .before .pre) .0) (length ps - 1) (omega arith) in
-    let rest = unpacked (drop (length ps - 1 + 1) ps) in
+    let last = length ps - 1 in
+    let n : l .i ≡ last = omega arith in
+    let p = getD ps last 0 in
+    let q = last-from a ps ((c .before .before .before .before .before .before .before .before .before .pre) .0) last (omega arith) in
+    let rest = unpacked (drop (last + 1) ps) in
     let f : drop (l .at) U ≡ residues p ++ rest = l .inv .5 ∙ rw n (q .0) in
     let w = part-within d U (l .at) (l .out) (l .inv .4) (l .inv .3) (residues p) rest f in
-    part-residues p (l .out) (l .at) ((c .before .before .decode) .last .1 .0) (omega (arith, (c .before .before .before .before .before .before .before .before .before .pre) .1)) ((c .before .before .decode) .ensures)
+    (c .before .before .decode) .ensures ∙ (residues-put p (l .at) (l .out) (residues p) refl (omega (arith, (c .before .before .before .before .before .before .before .before .before .pre) .1)))
     ∙ part-ends d U (l .at) (l .out) (l .inv .4) (l .inv .3) (residues p) rest f (q .1)
 
 pub write-residues-spec : {M : Type 1} → statement M
@@ -168,9 +124,6 @@ write-residues-spec =
     loop-holds
     mul-packet
     shared-slice-read-packet
-    sub-decode-codes
-    part-decode-codes-start
-    part-decode-codes-end
     decode-codes-requires
     code-count-requires
     add-at
@@ -179,9 +132,6 @@ write-residues-spec =
     loop-again
     mul-decode
     shared-slice-read-decode
-    sub-decode
-    part-decode-start
-    part-decode-end
     decode-requires
     same-length
     returns)
