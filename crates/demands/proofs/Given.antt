@@ -9,15 +9,12 @@ use lib.ListN.{length, getD}
 use Rattle.laws.specs.Rules.{AllHold}
 use Rattle.laws.specs.Writing.{writtenAt}
 use Rattle.laws.proofs.Places.{length-listTo, listTo-at}
-use Rattle.laws.proofs.Passing.{passes-with}
 use Rattle.laws.proofs.Rules.{hold-second, hold-first}
 use Rattle.laws.proofs.Storing.{written-inside, written-after}
-use Rattle.answers.specs.declared.Refusal.{Refusal}
-use Rattle.answers.proofs.Numbers.{number-not-zero}
+use Rattle.answers.proofs.Numbers.{zero-passes}
 use Rattle.residues.specs.Tables.{proteinCode}
 use Rattle.volume.specs.Index.{isProtein, indexRules}
 use Rattle.volume.specs.Tables.{sequenceStart, proteinLength, dnaEnd, dnaLength, sequenceLength}
-use Rattle.sequence.specs.declared.DecodeAnswer.{DecodeAnswer}
 use Rattle.sequence.specs.declared.DecodeAnswer.the-variants.{Decoded, Refused}
 use Rattle.sequence.specs.Bases.{baseAt}
 use Rattle.sequence.specs.Corrections.{entryWidth, entryCount, correctedAt, tableRules}
@@ -25,20 +22,10 @@ use Rattle.sequence.specs.Sequence.{byteFrom, rangeEnd, numberRules, dnaEntryRu
 use Rattle.sequence.proofs.Answers.{residues-protein, residues-dna, output-by}
 use Rattle.sequence.proofs.Corrected.{length-residues, residue-at}
 
-decoded-not : (l : ℕ) (r : Refusal) → Refused r ≡ Decoded l → ⊥
-decoded-not l r e = let z : _≡_ {A = ℕ} 0 1 = cc in omega arith
-
-decoded-as : (x : DecodeAnswer) → decodeNumber x ≡ 0 → (l : ℕ) × (x ≡ Decoded l)
-decoded-as (Decoded l) e = (l, refl)
-decoded-as (Refused r) e = absurd (number-not-zero r e)
-
 module _ (index sequence : List ℕ) (i : ℕ) (output : List ℕ) (decodes : decodeNumber (decodeAnswer index sequence i (length output)) ≡ 0) where
   all : AllHold (decodeRules index sequence i (length output)) × (decodeAnswer index sequence i (length output) ≡ Decoded (sequenceLength index sequence i))
   unfolding decodeAnswer
-  all =
-      let p = decoded-as (decodeAnswer index sequence i (length output)) decodes in
-      let q = passes-with Refused (Decoded (sequenceLength index sequence i)) (Decoded (p .0)) (decoded-not (p .0)) (decodeRules index sequence i (length output)) (p .1) in
-      (q .0, p .1 ∙ sym (q .1))
+  all = zero-passes Refused (Decoded (sequenceLength index sequence i)) decodeNumber (λ r. refl) (decodeRules index sequence i (length output)) decodes
 
   -- L is returned
   pub decoded-values : decodeValues (decodeAnswer index sequence i (length output)) ≡ decodeValues (Decoded (sequenceLength index sequence i))

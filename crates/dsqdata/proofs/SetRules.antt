@@ -9,12 +9,12 @@ use native.Mathlib.Nat.{le-antisymm, eq-or-lt-of-le}
 use lib.Dec.{leb}
 use lib.ListN.{length}
 use borrow.Author.Tests.{le-leb, leb-true, eq-eqb, eqb-true}
-use Rattle.laws.specs.Rules.{verdict, AllHold}
+use Rattle.laws.specs.Rules.{AllHold}
 use Rattle.laws.proofs.Places.{largest-same}
 use Rattle.laws.proofs.Rules.{verdict-passes, hold-append, hold-first, hold-second}
 use Rattle.laws.proofs.Tests.{never, both-pass}
 use Rattle.laws.proofs.Passing.{passes-with}
-use Rattle.answers.proofs.Numbers.{number-not-zero}
+use Rattle.answers.proofs.Numbers.{zero-passes}
 use Rattle.residues.specs.Alphabets.{isAlphabet}
 use Rattle.packets.specs.Runs.{wellFormed}
 use Rattle.packets.proofs.Rules.{formed-rules, rules-formed}
@@ -24,7 +24,6 @@ use Rattle.metadata.specs.Record.{textsIn, isGood, nameLength, accessionLength,
 use Rattle.metadata.specs.Rules.{MetadataRule}
 use Rattle.metadata.proofs.Rules.{texts-rule, rule-texts}
 use Rattle.dsqdata.specs.declared.SetRecord.{SetRecord}
-use Rattle.dsqdata.specs.declared.SetAnswer.{SetAnswer}
 use Rattle.dsqdata.specs.declared.SetAnswer.the-variants.{Passed, Refused}
 use Rattle.dsqdata.specs.Header.{alphabetOf, countOf, recordOf, bytesAfterHeader, packetsIn}
 use Rattle.dsqdata.specs.Ends.{metadataTable, packetTable, runAt, metadataStart}
@@ -240,24 +239,17 @@ module _ (i m s : List ℕ) where
 
   -- ---- the same, by the answer's number and values
 
-  zero-passed : setNumber (setCheck i m s) ≡ 0 → setCheck i m s ≡ Passed (recordOf i)
-  unfolding setCheck
-  zero-passed h = go (verdict Refused (Passed (recordOf i)) (setRules i m s)) refl h
-    where
-      go : (x : SetAnswer) → verdict Refused (Passed (recordOf i)) (setRules i m s) ≡ x → setNumber x ≡ 0 → x ≡ Passed (recordOf i)
-      go (Passed x) e z = ap Passed (sym (passed-all x e .1))
-      go (Refused r) e z = absurd (number-not-zero r z)
-
   -- The check answers 0 exactly where all rules of its list hold ..
   pub zero-all : setNumber (setCheck i m s) ≡ 0 → AllHold (setRules i m s)
-  zero-all h = passed-all (recordOf i) (zero-passed h) .0
+  unfolding setCheck
+  zero-all h = zero-passes Refused (Passed (recordOf i)) setNumber (λ r. refl) (setRules i m s) h .0
 
   pub all-zero : AllHold (setRules i m s) → (setNumber (setCheck i m s) ≡ 0) × (setValues (setCheck i m s) ≡ recordValues (recordOf i))
   all-zero h = let e = all-passed h in (ap setNumber e, ap setValues e)
 
   -- .. and so exactly where the rules of the set are kept; it then returns the ten header fields.
   pub zero-rules : setNumber (setCheck i m s) ≡ 0 → SetRules i m s
-  zero-rules h = passed-rules (recordOf i) (zero-passed h) .0
+  zero-rules h = passed-rules (recordOf i) (all-passed (zero-all h)) .0
 
   pub rules-zero : SetRules i m s → (setNumber (setCheck i m s) ≡ 0) × (setValues (setCheck i m s) ≡ recordValues (recordOf i))
   rules-zero r = let e = rules-passed r in (ap setNumber e, ap setValues e)

@@ -21,9 +21,8 @@ use Rattle.laws.proofs.Rules.{verdict-passes, hold-append, hold-first, hold-sec
 use Rattle.laws.proofs.Signed.{le-test, test-le, lt-test, test-lt, eq-test, test-eq, at-least-zero, states-itself}
 use Rattle.laws.proofs.Tests.{never, both-pass}
 use Rattle.answers.specs.declared.Refusal.{Refusal}
-use Rattle.answers.proofs.Numbers.{number-not-zero}
+use Rattle.answers.proofs.Numbers.{zero-passes}
 use Rattle.volume.specs.declared.VolumeRecord.{VolumeRecord}
-use Rattle.volume.specs.declared.VolumeAnswer.{VolumeAnswer}
 use Rattle.volume.specs.declared.VolumeAnswer.the-variants.{Passed, Refused}
 use Rattle.volume.specs.Index.{statedType, volumeType, isType, isProtein, titleEnd, timestampEnd, timestampStart, statedSequences, sequences, mostSequences, residues, longest, tableSize, headerTable, sequenceTable, ambiguityTable, tablesEnd, titleRules, timestampRules, countRules, tableRules, indexRules}
 use Rattle.volume.specs.Tables.{notBelow, above, between, sequenceOffset, ambiguityOffset, headerOffsetRules, proteinOffsetRules, dnaOffsetRules, sequenceOffsetRules, offsetRules, proteinEnd, proteinLength, dnaLength, proteinSeparatorRules, separatorRules, totalsOf, totalRules}
@@ -315,16 +314,13 @@ module _ (index sequence header : List ℕ) where
             totalsHold = rw t (d .2);
           }
 
-  passed-all : (v : VolumeRecord) → volumeAnswer index sequence header ≡ Passed v → AllHold (volumeRules index sequence header) × (v ≡ volumeRecord index)
-  unfolding volumeAnswer
-  passed-all v e =
-      let p = passes-with Refused (Passed (volumeRecord index)) (Passed v) (not-refused v) (volumeRules index sequence header) e in
-      let q = p .1 in
-      (p .0, cc)
-
   -- A volume that passes keeps every rule, and what is returned is its record.
   pub passed-rules : (v : VolumeRecord) → volumeAnswer index sequence header ≡ Passed v → VolumeHolds index sequence header × (v ≡ volumeRecord index)
-  passed-rules v e = let p = passed-all v e in (holds-of (volume-parts (p .0)), p .1)
+  unfolding volumeAnswer
+  passed-rules v e =
+      let p = passes-with Refused (Passed (volumeRecord index)) (Passed v) (not-refused v) (volumeRules index sequence header) e in
+      let q = p .1 in
+      (holds-of (volume-parts (p .0)), cc)
 
   -- A volume that keeps every rule passes.
   pub rules-pass : VolumeHolds index sequence header → volumeAnswer index sequence header ≡ Passed (volumeRecord index)
@@ -333,24 +329,19 @@ module _ (index sequence header : List ℕ) where
 
   -- ---- the same, by the answer's number and values
 
-  zero-passed : volumeNumber (volumeAnswer index sequence header) ≡ 0 → (v : VolumeRecord) × (volumeAnswer index sequence header ≡ Passed v)
-  zero-passed h = go (volumeAnswer index sequence header) refl h
-    where
-      go : (x : VolumeAnswer) → volumeAnswer index sequence header ≡ x → volumeNumber x ≡ 0 → (v : VolumeRecord) × (volumeAnswer index sequence header ≡ Passed v)
-      go (Passed v) e z = (v, e)
-      go (Refused r) e z = absurd (number-not-zero r z)
+  -- The check answers 0 only where all rules of its list hold, and then returns the volume's record ..
+  zero-passed : volumeNumber (volumeAnswer index sequence header) ≡ 0
+      → AllHold (volumeRules index sequence header) × (volumeAnswer index sequence header ≡ Passed (volumeRecord index))
+  unfolding volumeAnswer
+  zero-passed h = zero-passes Refused (Passed (volumeRecord index)) volumeNumber (λ r. refl) (volumeRules index sequence header) h
 
-  -- The check answers 0 only where all rules of its list hold ..
   pub zero-all : volumeNumber (volumeAnswer index sequence header) ≡ 0 → AllHold (volumeRules index sequence header)
-  zero-all h = let p = zero-passed h in passed-all (p .0) (p .1) .0
+  zero-all h = zero-passed h .0
 
-  -- .. and so only where the rules of the volume are kept; it then returns the volume's record.
+  -- .. and so only where the rules of the volume are kept.
   pub zero-rules : volumeNumber (volumeAnswer index sequence header) ≡ 0
       → VolumeHolds index sequence header × (volumeValues (volumeAnswer index sequence header) ≡ recordValues (volumeRecord index))
-  zero-rules h =
-      let p = zero-passed h in
-      let q = passed-rules (p .0) (p .1) in
-      (q .0, ap volumeValues (p .1) ∙ ap recordValues (q .1))
+  zero-rules h = let p = zero-passed h in (holds-of (volume-parts (p .0)), ap volumeValues (p .1))
 
   pub rules-zero : VolumeHolds index sequence header → volumeNumber (volumeAnswer index sequence header) ≡ 0
   rules-zero h = ap volumeNumber (rules-pass h)
