@@ -60,6 +60,6 @@ pub old-index-ends : (old metadata sequence : List ℕ) → setNumber (setCheck 
 old-index-ends = Set.passes-ends
 
 pub old-and-new-index : (old metadata sequence new metadata′ sequence′ : List ℕ) → setNumber (setCheck old metadata sequence) ≡ 0
-    → setNumber (setCheck new metadata′ sequence′) ≡ 0 → alphabetOf old ≡ alphabetOf new → bodyOf sequence ≡ bodyOf sequence′
+    → setNumber (setCheck new metadata′ sequence′) ≡ 0 → bodyOf sequence ≡ bodyOf sequence′
     → packetEnds old ≡ packetEnds new
 old-and-new-index = Set.old-index

@@ -11,7 +11,7 @@ use Rattle.laws.specs.Places.{listTo}
 use Rattle.laws.specs.Rules.{AllHold}
 use Rattle.packets.specs.Runs.{wellFormed}
 use Rattle.packets.specs.Ends.{lastPlace, between, MakesAfter, Makes}
-use Rattle.packets.proofs.Ends.{ends-unique}
+use Rattle.packets.proofs.Ends.{ends-unique, ends-same}
 use Rattle.dsqdata.specs.Header.{alphabetOf, countOf, packetsIn, bodyOf}
 use Rattle.dsqdata.specs.Ends.{packetTable, endBefore, packetEnds, runAt}
 use Rattle.dsqdata.specs.Check.{packetEndsRules, rulesOfRun, runRules, otherRules, setCheck, setNumber}
@@ -133,5 +133,6 @@ module _ (i m s : List ℕ) where
 
 -- An old index passes over a new body only if every run ends where it did: it then has the packet ends of the new index, over which the same body passes.
 pub old-index : (old m s new m′ s′ : List ℕ) → setNumber (setCheck old m s) ≡ 0 → setNumber (setCheck new m′ s′) ≡ 0
-    → alphabetOf old ≡ alphabetOf new → bodyOf s ≡ bodyOf s′ → packetEnds old ≡ packetEnds new
-old-index old m s new m′ s′ h g e f = passes-ends old m s h (packetEnds new) (rw (e, f) (passes-makes new m′ s′ g .0))
+    → bodyOf s ≡ bodyOf s′ → packetEnds old ≡ packetEnds new
+old-index old m s new m′ s′ h g f =
+    ends-same (alphabetOf old) (alphabetOf new) (bodyOf s) (packetEnds old) (packetEnds new) (passes-makes old m s h .0) (rw f (passes-makes new m′ s′ g .0))

@@ -98,33 +98,37 @@ part-rest ps f t h k =
     let l : f ≤ length (take t ps) = rw (length-take-le t ps k) h in
     sym (drop-append-le f (take t ps) (drop t ps) l) ∙ ap (λ (x : List ℕ). drop f x) (take-append-drop t ps)
 
-ends-after : (a : ℕ) (ps : List ℕ) (b : ℤ) (es fs : List ℤ) → Low b → MakesAfter a ps b es → MakesAfter a ps b fs → es ≡ fs
-ends-after a ps b [] [] l x y = refl
-ends-after a ps b [] (f ∷ fs) l x y =
+ends-after : (a b′ : ℕ) (ps : List ℕ) (b : ℤ) (es fs : List ℤ) → Low b → MakesAfter a ps b es → MakesAfter b′ ps b fs → es ≡ fs
+ends-after a b′ ps b [] [] l x y = refl
+ends-after a b′ ps b [] (f ∷ fs) l x y =
     let p = above b f l (y .0) in
-    let q = makes-low a ps f fs (low-next b f l (y .0)) (y .2) in
+    let q = makes-low b′ ps f fs (low-next b f l (y .0)) (y .2) in
     let e = ap after x ∙ after-last (length ps) in
     absurd (let z : ⊥ = omega arith in z)
-ends-after a ps b (e ∷ es) [] l x y =
+ends-after a b′ ps b (e ∷ es) [] l x y =
     let p = above b e l (x .0) in
     let q = makes-low a ps e es (low-next b e l (x .0)) (x .2) in
     let h = ap after y ∙ after-last (length ps) in
     absurd (let z : ⊥ = omega arith in z)
-ends-after a ps b (e ∷ es) (f ∷ fs) l x y =
+ends-after a b′ ps b (e ∷ es) (f ∷ fs) l x y =
     let le = low-next b e l (x .0) in
     let lf = low-next b f l (y .0) in
     let p = above b e l (x .0) in
     let q = above b f l (y .0) in
     let u = makes-low a ps e es le (x .2) in
-    let v = makes-low a ps f fs lf (y .2) in
-    let r = cut a a true true (between ps b e) (between ps b f) (drop (after e) ps) (drop (after f) ps)
-    (whole a (between ps b e) (x .1)) (whole a (between ps b f) (y .1))
+    let v = makes-low b′ ps f fs lf (y .2) in
+    let r = cut a b′ true true (between ps b e) (between ps b f) (drop (after e) ps) (drop (after f) ps)
+    (whole a (between ps b e) (x .1)) (whole b′ (between ps b f) (y .1))
     (part-rest ps (after b) (after e) (omega arith) u ∙ sym (part-rest ps (after b) (after f) (omega arith) v)) in
     let n : after e ≡ after f =
     omega (arith, ap length (r .0), length-slice (after b) (after e) ps u, length-slice (after b) (after f) ps v) in
     let same : e ≡ f = same-end e f le lf n in
-    ap₂ (λ (z : ℤ) (k : List ℤ). z ∷ k) same (ends-after a ps e es fs le (x .2) (rw same (y .2)))
+    ap₂ (λ (z : ℤ) (k : List ℤ). z ∷ k) same (ends-after a b′ ps e es fs le (x .2) (rw same (y .2)))
 
 -- For every body of packets and every alphabet, at most one list of ends makes it well formed.
 pub ends-unique : (a : ℕ) (ps : List ℕ) (es fs : List ℤ) → Makes a ps es → Makes a ps fs → es ≡ fs
-ends-unique a ps es fs x y = ends-after a ps (negsuc 0) es fs (leZ-yes tt) x y
+ends-unique a ps es fs x y = ends-after a a ps (negsuc 0) es fs (leZ-yes tt) x y
+
+-- The same where the two lists go by two alphabets: where runs end shows in the packets alone.
+pub ends-same : (a b : ℕ) (ps : List ℕ) (es fs : List ℤ) → Makes a ps es → Makes b ps fs → es ≡ fs
+ends-same a b ps es fs x y = ends-after a b ps (negsuc 0) es fs (leZ-yes tt) x y
