@@ -91,7 +91,7 @@ fn title_in_line(s: &[u8], line: usize, k: u64) -> TitleSearch
     let mut p = line + 2;
     let mut left = k;
     while !elements::closes_at(s, p) {
-        let e = elements::element(s, p, Form::Any, 16);
+        let e = elements::element(s, p, Form::Any);
         let ElementAnswer::End(n) = e else {
             return TitleSearch::Left(left);
         };
@@ -116,7 +116,7 @@ fn title_in_record(s: &[u8], start: usize, k: u64) -> TitleSearch
     let mut p = start + 2;
     let mut left = k;
     while !elements::closes_at(s, p) {
-        let e = elements::element(s, p, Form::Any, 16);
+        let e = elements::element(s, p, Form::Any);
         let ElementAnswer::End(n) = e else {
             return TitleSearch::Left(left);
         };
@@ -141,7 +141,7 @@ fn element_in_list(s: &[u8], list: usize, k: u64) -> PlaceSearch
     let mut p = list + 2;
     let mut left = k;
     while !elements::closes_at(s, p) {
-        let e = elements::element(s, p, Form::Any, 16);
+        let e = elements::element(s, p, Form::Any);
         let ElementAnswer::End(n) = e else {
             return PlaceSearch::Left(left);
         };
@@ -162,7 +162,7 @@ fn identifier_in_line(s: &[u8], line: usize, k: u64) -> PlaceSearch
     let mut p = line + 2;
     let mut left = k;
     while !elements::closes_at(s, p) {
-        let e = elements::element(s, p, Form::Any, 16);
+        let e = elements::element(s, p, Form::Any);
         let ElementAnswer::End(n) = e else {
             return PlaceSearch::Left(left);
         };
@@ -188,7 +188,7 @@ fn identifier_in_record(s: &[u8], start: usize, k: u64) -> PlaceSearch
     let mut p = start + 2;
     let mut left = k;
     while !elements::closes_at(s, p) {
-        let e = elements::element(s, p, Form::Any, 16);
+        let e = elements::element(s, p, Form::Any);
         let ElementAnswer::End(n) = e else {
             return PlaceSearch::Left(left);
         };

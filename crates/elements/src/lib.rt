@@ -253,7 +253,7 @@ fn closed(s: &[u8], e: ElementAnswer) -> ElementAnswer
 }
 
 // Reads the element at a place by a form, with so many depths left.
-pub fn element(s: &[u8], at: usize, form: Form, depth: u32) -> ElementAnswer
+fn element_within(s: &[u8], at: usize, form: Form, depth: u32) -> ElementAnswer
     ensures { λ r. ⌜ r ≡ read depth form (now (s .entry)) at ⌝ }
 {
     if depth == 0 {
@@ -262,7 +262,7 @@ pub fn element(s: &[u8], at: usize, form: Form, depth: u32) -> ElementAnswer
     match start_of(s, at, form) {
         Start::Ended(answer) => answer,
         Start::Choice(inner) => {
-            let e = element(s, at + 2, inner, depth - 1);
+            let e = element_within(s, at + 2, inner, depth - 1);
             closed(s, e)
         }
         Start::List(inner) => {
@@ -273,7 +273,7 @@ pub fn element(s: &[u8], at: usize, form: Form, depth: u32) -> ElementAnswer
                 if !may_follow(form, low, b) {
                     return ElementAnswer::Refused(Refusal::BadHeader);
                 }
-                let e = element(s, p, inner, depth - 1);
+                let e = element_within(s, p, inner, depth - 1);
                 let ElementAnswer::End(n) = e else {
                     return e;
                 };
@@ -283,6 +283,13 @@ pub fn element(s: &[u8], at: usize, form: Form, depth: u32) -> ElementAnswer
             ElementAnswer::End(p + 2)
         }
     }
+}
+
+// Reads the element at a place by a form; it and what is inside it may go 16 deep.
+pub fn element(s: &[u8], at: usize, form: Form) -> ElementAnswer
+    ensures { λ r. ⌜ r ≡ read 16 form (now (s .entry)) at ⌝ }
+{
+    element_within(s, at, form, 16)
 }
 
 // The text element at a place.

@@ -11,13 +11,13 @@ ghost use Rattle.headers.specs.Record.{elementRules, checkRecord};
 fn check_element(s: &[u8], start: usize) -> Checked
     ensures { λ r. ⌜ r ≡ checkedBy (elementRules (now (s .entry)) start) ⌝ }
 {
-    match elements::element(s, start, Form::Any, 16) {
+    match elements::element(s, start, Form::Any) {
         ElementAnswer::Refused(r) => Checked::Refused(r),
         ElementAnswer::End(n) => {
             if n != s.len() {
                 return Checked::Refused(Refusal::BadHeader);
             }
-            match elements::element(s, start, Form::DefLines, 16) {
+            match elements::element(s, start, Form::DefLines) {
                 ElementAnswer::Refused(_) => Checked::Refused(Refusal::BadHeader),
                 ElementAnswer::End(_) => Checked::Passed,
             }

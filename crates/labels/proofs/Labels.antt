@@ -34,7 +34,7 @@ use Rattle.volume.specs.Tables.{offsetAt}
 use Rattle.volume.proofs.Facts.{index-parts, few-sequences}
 use Rattle.labels.specs.declared.LabelAnswer.{LabelAnswer}
 use Rattle.labels.specs.declared.LabelAnswer.the-variants.{InHeader, InIndex, Refused}
-use Rattle.labels.specs.Label.{recordLabel, ownRules, offsetsLabel, numberLabel, labelOf, labelPart}
+use Rattle.labels.specs.Label.{recordLabel, ownRules, offsetsLabel, numberLabel, labelOf, labelPart, labelPlace}
 
 -- ---- a sequence's own offsets; x and y are the machine's numbers, low and high what they are
 
@@ -191,3 +191,13 @@ module _ (index header : List ℕ) where
 
   pub part-index : (a : LabelAnswer) (t : Span) → a ≡ InIndex t → take (t .start + t .len - t .start) (drop (t .start) index) ≡ labelPart index header a
   part-index a t e = rw e (simp add-sub-cancel-left)
+
+-- where a part lies
+pub place-header : (index header : ℕ × ℕ) (a : LabelAnswer) (t : Span) → a ≡ InHeader t → _≡_ {A = ℕ × ℕ} (header .0, t .start + header .1) (labelPlace index header a)
+place-header index header a t e = rw e
+
+pub place-index : (index header : ℕ × ℕ) (a : LabelAnswer) (t : Span) → a ≡ InIndex t → _≡_ {A = ℕ × ℕ} (index .0, t .start + index .1) (labelPlace index header a)
+place-index index header a t e = rw e
+
+pub place-refused : (index header : ℕ × ℕ) (a : LabelAnswer) (r : Refusal) → a ≡ Refused r → _≡_ {A = ℕ × ℕ} (index .0, 0 + index .1) (labelPlace index header a)
+place-refused index header a r e = rw e

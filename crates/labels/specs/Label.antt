@@ -60,3 +60,9 @@ abbrev pub labelPart : List ℕ → List ℕ → LabelAnswer → List ℕ
 labelPart index header (InHeader t) = bytesOf header (t .start) (t .len)
 labelPart index header (InIndex t) = bytesOf index (t .start) (t .len)
 labelPart index header (Refused r) = []
+
+-- Where the part lies, as a memory block and an offset, of an index and a header file that lie at two places: on a refusal the start of the index.
+abbrev pub labelPlace : ℕ × ℕ → ℕ × ℕ → LabelAnswer → ℕ × ℕ
+labelPlace index header (InHeader t) = (header .0, t .start + header .1)
+labelPlace index header (InIndex t) = (index .0, t .start + index .1)
+labelPlace index header (Refused r) = (index .0, 0 + index .1)

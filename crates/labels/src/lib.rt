@@ -11,7 +11,7 @@ ghost use Rattle.laws.specs.Signed.{toNat};
 ghost use Rattle.answers.specs.Limits.{checkedBy};
 ghost use Rattle.volume.specs.Tables.{offsetAt};
 ghost use Rattle.labels.specs.Walker.{stepOf};
-ghost use Rattle.labels.specs.Label.{recordLabel, ownRules, offsetsLabel, labelOf, labelNumber, labelPart};
+ghost use Rattle.labels.specs.Label.{recordLabel, ownRules, offsetsLabel, labelOf, labelNumber, labelPart, labelPlace};
 
 // A walker's place: a record's start and end in the header file, and the number of its titles already given.
 pub struct Place {
@@ -182,7 +182,8 @@ pub fn label_number(index: &[u8], header: &[u8], number: u64) -> u32
 
 // The part of the label call: a part of the header file or of the index; on a refusal the empty start of the index.
 pub fn label_part<'a>(index: &'a [u8], header: &'a [u8], number: u64) -> &'a [u8]
-    ensures { λ r. ⌜ now r ≡ labelPart (now (index .entry)) (now (header .entry)) (labelOf (now (index .entry)) (now (header .entry)) number) ⌝ }
+    ensures part { λ r. ⌜ now r ≡ labelPart (now (index .entry)) (now (header .entry)) (labelOf (now (index .entry)) (now (header .entry)) number) ⌝ }
+    ensures place { λ r. ⌜ r .ptr ≡ labelPlace (index .entry .ptr) (header .entry .ptr) (labelOf (now (index .entry)) (now (header .entry)) number) ⌝ }
 {
     match find_label(index, header, number) {
         LabelAnswer::InHeader(t) => {

@@ -2,7 +2,7 @@
 use native.Mathlib.Omega.{arith}
 use mathlib.Core.Path.{sym, ap, _∙_}
 use Rattle.labels.specs.Label.{labelPart}
-use Rattle.labels.proofs.Labels.{label-within, part-header, part-index}
+use Rattle.labels.proofs.Labels.{label-within, part-header, part-index, place-header, place-index, place-refused}
 use borrow.Author.Needs.{needs}
 use Rattle.labels.proofs.label_part.Statement.{statement}
 use Rattle.labels.proofs.label_part.Tie as tie
@@ -53,13 +53,20 @@ part-result-end-3 : tie.Need-part-result-end-3
 part-result-end-3 c = search needs
 
 returns : tie.Need-returns
-returns c = part-header _ _ _ _ (sym ((c .before .before .before .before .before .find-label) .ensures) ∙ (c .before .before .before .t) .given .1)
+returns c =
+    let e = sym ((c .before .before .before .before .before .find-label) .ensures) ∙ (c .before .before .before .t) .given .1 in
+    (part-header _ _ _ _ e, place-header _ _ _ _ e)
 
 returns-2 : tie.Need-returns-2
-returns-2 c = part-index _ _ _ _ (sym ((c .before .before .before .before .before .find-label) .ensures) ∙ (c .before .before .before .t2) .given .1)
+returns-2 c =
+    let e = sym ((c .before .before .before .before .before .find-label) .ensures) ∙ (c .before .before .before .t2) .given .1 in
+    (part-index _ _ _ _ e, place-index _ _ _ _ e)
 
 returns-3 : tie.Need-returns-3
-returns-3 c = sym (ap (labelPart ((c .before .before .before .before .before .before .args) .index .now) ((c .before .before .before .before .before .before .args) .header .now)) (sym ((c .before .before .before .find-label) .ensures) ∙ (c .before .enum-told) .given .1))
+returns-3 c =
+    let a = (c .before .before .before .before .before .before .args) in
+    let e = sym ((c .before .before .before .find-label) .ensures) ∙ (c .before .enum-told) .given .1 in
+    (sym (ap (labelPart (a .index .now) (a .header .now)) e), place-refused (a .index .ptr) (a .header .ptr) _ _ e)
 
 pub label-part-spec : {M : Type 1} → statement M
 label-part-spec =

@@ -1,4 +1,4 @@
--- `elements::element`: an inner element is read with one depth less. The loop's invariant says that the rest of the list, read from p on, gives the
+-- `elements::element_within`: an inner element is read with one depth less. The loop's invariant says that the rest of the list, read from p on, gives the
 -- answer for the whole element. Assumes nothing.
 use native.Mathlib.Omega.{arith}
 use mathlib.Core.Path.{_≡_, sym, ap, _∙_}
@@ -12,17 +12,17 @@ use borrow.Author.Needs.{needs}
 use Prim.Native.Nat.{ℕ, _<_}
 use borrow.Fn.Kinds.{In}
 use borrow.Fn.PlainCycle.{Measures, is, falls, and}
-use Rattle.elements.proofs.element.Reads as element
-use Rattle.elements.proofs.element.Kinds as element-kinds
-use Rattle.elements.proofs.+element.Lts-element as element-lts
+use Rattle.elements.proofs.element_within.Reads as element
+use Rattle.elements.proofs.element_within.Kinds as element-kinds
+use Rattle.elements.proofs.+element_within.Lts-element_within as element-lts
 use Rattle.elements.proofs.closed.Reads as closed-reads
 use Rattle.elements.proofs.closes_at.Reads as closes-at-reads
 use Rattle.elements.proofs.grammar.may_follow.Reads as may-follow-reads
 use Rattle.elements.proofs.start_of.Reads as start-of-reads
 use Rattle.elements.proofs.too_deep.Reads as too-deep-reads
 use Rattle.fields.proofs.byte.Reads as byte-reads
-use Rattle.elements.proofs.+element.{statement}
-use Rattle.elements.proofs.+element.Tie.{close}
+use Rattle.elements.proofs.+element_within.{statement}
+use Rattle.elements.proofs.+element_within.Tie.{close}
 
 abbrev μ-element : Measures 1 element-kinds.ps ℕ
 μ-element κs a = a .1 .1 .1 .0
@@ -58,13 +58,13 @@ element-enum-known-answer t c = search needs
 element-enum-known-inner : (t : ℕ) → element-lts.Need-enum-known-inner (claims t) (element-at t) element.Post element-Inv-loop element-μ-loop
 element-enum-known-inner t c = search needs
 
-element-add-element : (t : ℕ) → element-lts.Need-add-element (claims t) (element-at t) element.Post element-Inv-loop element-μ-loop
+element-add-element : (t : ℕ) → element-lts.Need-add-element-within (claims t) (element-at t) element.Post element-Inv-loop element-μ-loop
 element-add-element t c = omega (arith, start-at ((c .before .before .before .before .before .before .args) .form) ((c .before .before .before .before .before .before .args) .s .now) ((c .before .before .before .before .before .before .args) .at) (B.Choice ((c .before .inner) .given .0 .0)) (sym ((c .before .before .before .start-of) .ensures) ∙ (c .before .inner) .given .1))
 
-element-sub-element : (t : ℕ) → element-lts.Need-sub-element (claims t) (element-at t) element.Post element-Inv-loop element-μ-loop
+element-sub-element : (t : ℕ) → element-lts.Need-sub-element-within (claims t) (element-at t) element.Post element-Inv-loop element-μ-loop
 element-sub-element t c = search needs
 
-element-element-requires : (t : ℕ) → element-lts.Need-element-requires (claims t) (element-at t) element.Post element-Inv-loop element-μ-loop
+element-element-requires : (t : ℕ) → element-lts.Need-element-within-requires (claims t) (element-at t) element.Post element-Inv-loop element-μ-loop
 element-element-requires t c κs = (omega arith, tt)
 
 element-closed-requires : (t : ℕ) → element-lts.Need-closed-requires (claims t) (element-at t) element.Post element-Inv-loop element-μ-loop
@@ -94,10 +94,10 @@ element-may-follow-requires t c κs = search needs
 element-returns-2 : (t : ℕ) → element-lts.Need-returns-2 (claims t) (element-at t) element.Post element-Inv-loop element-μ-loop
 element-returns-2 t c = sym (list-stray (Inner ((c .before .before .before .before .before .before .before .before .before .before .before .before .args) .depth) ((c .before .before .before .before .before .before .before .inner2) .given .0 .0) ((c .before .before .before .before .before .before .before .before .before .before .before .before .args) .s .now)) ((c .before .before .before .before .before .before .before .before .before .before .before .before .args) .form) ((c .before .before .before .before .before .loop) .inv .1 .0) ((c .before .before .before .before .before .loop) .low) ((c .before .before .before .before .before .before .before .before .before .before .before .before .args) .s .now) ((c .before .before .before .before .before .loop) .p) (omega (arith, (c .before .before .before .before .before .loop) .inv)) (sym ((c .before .before .before .before .closes-at) .ensures) ∙ not-true _ ((c .before .before .before .if2) .taken)) ((c .before .before .byte) .result) ((c .before .before .byte) .ensures) (sym ((c .before .may-follow) .ensures) ∙ not-true _ ((c .if3) .taken))) ∙ (c .before .before .before .before .before .loop) .inv .1 .2
 
-element-sub-element-2 : (t : ℕ) → element-lts.Need-sub-element-2 (claims t) (element-at t) element.Post element-Inv-loop element-μ-loop
+element-sub-element-2 : (t : ℕ) → element-lts.Need-sub-element-within-2 (claims t) (element-at t) element.Post element-Inv-loop element-μ-loop
 element-sub-element-2 t c = search needs
 
-element-element-requires-2 : (t : ℕ) → element-lts.Need-element-requires-2 (claims t) (element-at t) element.Post element-Inv-loop element-μ-loop
+element-element-requires-2 : (t : ℕ) → element-lts.Need-element-within-requires-2 (claims t) (element-at t) element.Post element-Inv-loop element-μ-loop
 element-element-requires-2 t c κs = (omega arith, tt)
 
 element-enum-known-e : (t : ℕ) → element-lts.Need-enum-known-e (claims t) (element-at t) element.Post element-Inv-loop element-μ-loop
@@ -107,16 +107,16 @@ element-enum-told : (t : ℕ) → element-lts.Need-enum-told (claims t) (element
 element-enum-told t c = search needs
 
 element-returns-3 : (t : ℕ) → element-lts.Need-returns-3 (claims t) (element-at t) element.Post element-Inv-loop element-μ-loop
-element-returns-3 t c = (c .enum-told) .given .1 ∙ sym (list-refused (Inner ((c .before .before .before .before .before .before .before .before .before .before .before .before .before .before .before .args) .depth) ((c .before .before .before .before .before .before .before .before .before .before .inner2) .given .0 .0) ((c .before .before .before .before .before .before .before .before .before .before .before .before .before .before .before .args) .s .now)) ((c .before .before .before .before .before .before .before .before .before .before .before .before .before .before .before .args) .form) ((c .before .before .before .before .before .before .before .before .loop) .inv .1 .0) ((c .before .before .before .before .before .before .before .before .loop) .low) ((c .before .before .before .before .before .before .before .before .before .before .before .before .before .before .before .args) .s .now) ((c .before .before .before .before .before .before .before .before .loop) .p) (omega (arith, (c .before .before .before .before .before .before .before .before .loop) .inv)) (sym ((c .before .before .before .before .before .before .before .closes-at) .ensures) ∙ not-true _ ((c .before .before .before .before .before .before .if2) .taken)) ((c .before .before .before .before .before .byte) .result) ((c .before .before .before .before .before .byte) .ensures) _ (sym ((c .before .before .before .before .may-follow) .ensures) ∙ not-false _ ((c .before .before .before .if3) .left)) (sym ((c .before .before .element2) .ensures) ∙ (c .enum-told) .given .1)) ∙ (c .before .before .before .before .before .before .before .before .loop) .inv .1 .2
+element-returns-3 t c = (c .enum-told) .given .1 ∙ sym (list-refused (Inner ((c .before .before .before .before .before .before .before .before .before .before .before .before .before .before .before .args) .depth) ((c .before .before .before .before .before .before .before .before .before .before .inner2) .given .0 .0) ((c .before .before .before .before .before .before .before .before .before .before .before .before .before .before .before .args) .s .now)) ((c .before .before .before .before .before .before .before .before .before .before .before .before .before .before .before .args) .form) ((c .before .before .before .before .before .before .before .before .loop) .inv .1 .0) ((c .before .before .before .before .before .before .before .before .loop) .low) ((c .before .before .before .before .before .before .before .before .before .before .before .before .before .before .before .args) .s .now) ((c .before .before .before .before .before .before .before .before .loop) .p) (omega (arith, (c .before .before .before .before .before .before .before .before .loop) .inv)) (sym ((c .before .before .before .before .before .before .before .closes-at) .ensures) ∙ not-true _ ((c .before .before .before .before .before .before .if2) .taken)) ((c .before .before .before .before .before .byte) .result) ((c .before .before .before .before .before .byte) .ensures) _ (sym ((c .before .before .before .before .may-follow) .ensures) ∙ not-false _ ((c .before .before .before .if3) .left)) (sym ((c .before .before .element-within2) .ensures) ∙ (c .enum-told) .given .1)) ∙ (c .before .before .before .before .before .before .before .before .loop) .inv .1 .2
 
 element-add-low : (t : ℕ) → element-lts.Need-add-low (claims t) (element-at t) element.Post element-Inv-loop element-μ-loop
 element-add-low t c = search needs
 
 element-loop-less : (t : ℕ) → element-lts.Need-loop-less (claims t) (element-at t) element.Post element-Inv-loop element-μ-loop
-element-loop-less t c = omega (arith, ends-within ((c .before .before .before .before .before .before .before .before .before .before .before .before .before .before .before .before .args) .depth - 1) ((c .before .before .before .before .before .before .before .before .before .before .before .inner2) .given .0 .0) ((c .before .before .before .before .before .before .before .before .before .before .before .before .before .before .before .before .args) .s .now) ((c .before .before .before .before .before .before .before .before .before .loop) .p) _ (sym ((c .before .before .before .element2) .ensures) ∙ (c .before .e) .given .1))
+element-loop-less t c = omega (arith, ends-within ((c .before .before .before .before .before .before .before .before .before .before .before .before .before .before .before .before .args) .depth - 1) ((c .before .before .before .before .before .before .before .before .before .before .before .inner2) .given .0 .0) ((c .before .before .before .before .before .before .before .before .before .before .before .before .before .before .before .before .args) .s .now) ((c .before .before .before .before .before .before .before .before .before .loop) .p) _ (sym ((c .before .before .before .element-within2) .ensures) ∙ (c .before .e) .given .1))
 
 element-loop-again : (t : ℕ) → element-lts.Need-loop-again (claims t) (element-at t) element.Post element-Inv-loop element-μ-loop
-element-loop-again t c = let w = ends-within ((c .before .before .before .before .before .before .before .before .before .before .before .before .before .before .before .before .args) .depth - 1) ((c .before .before .before .before .before .before .before .before .before .before .before .inner2) .given .0 .0) ((c .before .before .before .before .before .before .before .before .before .before .before .before .before .before .before .before .args) .s .now) ((c .before .before .before .before .before .before .before .before .before .loop) .p) _ (sym ((c .before .before .before .element2) .ensures) ∙ (c .before .e) .given .1) in (w .1, ((c .before .before .before .before .before .before .before .before .before .loop) .inv .1 .0 - 1, omega (arith, (c .before .before .before .before .before .before .before .before .before .loop) .inv, w), sym (list-passed (Inner ((c .before .before .before .before .before .before .before .before .before .before .before .before .before .before .before .before .args) .depth) ((c .before .before .before .before .before .before .before .before .before .before .before .inner2) .given .0 .0) ((c .before .before .before .before .before .before .before .before .before .before .before .before .before .before .before .before .args) .s .now)) ((c .before .before .before .before .before .before .before .before .before .before .before .before .before .before .before .before .args) .form) ((c .before .before .before .before .before .before .before .before .before .loop) .inv .1 .0) ((c .before .before .before .before .before .before .before .before .before .loop) .low) ((c .before .before .before .before .before .before .before .before .before .before .before .before .before .before .before .before .args) .s .now) ((c .before .before .before .before .before .before .before .before .before .loop) .p) (omega (arith, (c .before .before .before .before .before .before .before .before .before .loop) .inv)) (sym ((c .before .before .before .before .before .before .before .before .closes-at) .ensures) ∙ not-true _ ((c .before .before .before .before .before .before .before .if2) .taken)) ((c .before .before .before .before .before .before .byte) .result) ((c .before .before .before .before .before .before .byte) .ensures) _ (sym ((c .before .before .before .before .before .may-follow) .ensures) ∙ not-false _ ((c .before .before .before .before .if3) .left)) (sym ((c .before .before .before .element2) .ensures) ∙ (c .before .e) .given .1)) ∙ (c .before .before .before .before .before .before .before .before .before .loop) .inv .1 .2))
+element-loop-again t c = let w = ends-within ((c .before .before .before .before .before .before .before .before .before .before .before .before .before .before .before .before .args) .depth - 1) ((c .before .before .before .before .before .before .before .before .before .before .before .inner2) .given .0 .0) ((c .before .before .before .before .before .before .before .before .before .before .before .before .before .before .before .before .args) .s .now) ((c .before .before .before .before .before .before .before .before .before .loop) .p) _ (sym ((c .before .before .before .element-within2) .ensures) ∙ (c .before .e) .given .1) in (w .1, ((c .before .before .before .before .before .before .before .before .before .loop) .inv .1 .0 - 1, omega (arith, (c .before .before .before .before .before .before .before .before .before .loop) .inv, w), sym (list-passed (Inner ((c .before .before .before .before .before .before .before .before .before .before .before .before .before .before .before .before .args) .depth) ((c .before .before .before .before .before .before .before .before .before .before .before .inner2) .given .0 .0) ((c .before .before .before .before .before .before .before .before .before .before .before .before .before .before .before .before .args) .s .now)) ((c .before .before .before .before .before .before .before .before .before .before .before .before .before .before .before .before .args) .form) ((c .before .before .before .before .before .before .before .before .before .loop) .inv .1 .0) ((c .before .before .before .before .before .before .before .before .before .loop) .low) ((c .before .before .before .before .before .before .before .before .before .before .before .before .before .before .before .before .args) .s .now) ((c .before .before .before .before .before .before .before .before .before .loop) .p) (omega (arith, (c .before .before .before .before .before .before .before .before .before .loop) .inv)) (sym ((c .before .before .before .before .before .before .before .before .closes-at) .ensures) ∙ not-true _ ((c .before .before .before .before .before .before .before .if2) .taken)) ((c .before .before .before .before .before .before .byte) .result) ((c .before .before .before .before .before .before .byte) .ensures) _ (sym ((c .before .before .before .before .before .may-follow) .ensures) ∙ not-false _ ((c .before .before .before .before .if3) .left)) (sym ((c .before .before .before .element-within2) .ensures) ∙ (c .before .e) .given .1)) ∙ (c .before .before .before .before .before .before .before .before .before .loop) .inv .1 .2))
 
 element-add-t24 : (t : ℕ) → element-lts.Need-add-t24 (claims t) (element-at t) element.Post element-Inv-loop element-μ-loop
 element-add-t24 t c = omega (arith, closes-within ((c .before .before .before .before .before .before .before .before .before .args) .s .now) ((c .before .before .loop) .p) (sym ((c .before .closes-at) .ensures) ∙ not-false _ ((c .if2) .left)))
@@ -125,13 +125,13 @@ element-returns-4 : (t : ℕ) → element-lts.Need-returns-4 (claims t) (element
 element-returns-4 t c = read-started ((c .before .before .before .before .before .before .args) .depth) ((c .before .before .before .before .before .before .args) .form) ((c .before .before .before .before .before .before .args) .s .now) ((c .before .before .before .before .before .before .args) .at) (B.Ended ((c .before .answer) .given .0 .0)) ((c .before .before .before .before .if1) .left) (sym ((c .before .before .before .start-of) .ensures) ∙ (c .before .answer) .given .1)
 
 element-returns-5 : (t : ℕ) → element-lts.Need-returns-5 (claims t) (element-at t) element.Post element-Inv-loop element-μ-loop
-element-returns-5 t c = (c .closed) .ensures ∙ ap (closedAt ((c .before .before .before .before .before .before .before .before .args) .s .now)) ((c .before .element) .ensures) ∙ read-started ((c .before .before .before .before .before .before .before .before .args) .depth) ((c .before .before .before .before .before .before .before .before .args) .form) ((c .before .before .before .before .before .before .before .before .args) .s .now) ((c .before .before .before .before .before .before .before .before .args) .at) (B.Choice ((c .before .before .before .inner) .given .0 .0)) ((c .before .before .before .before .before .before .if1) .left) (sym ((c .before .before .before .before .before .start-of) .ensures) ∙ (c .before .before .before .inner) .given .1)
+element-returns-5 t c = (c .closed) .ensures ∙ ap (closedAt ((c .before .before .before .before .before .before .before .before .args) .s .now)) ((c .before .element-within) .ensures) ∙ read-started ((c .before .before .before .before .before .before .before .before .args) .depth) ((c .before .before .before .before .before .before .before .before .args) .form) ((c .before .before .before .before .before .before .before .before .args) .s .now) ((c .before .before .before .before .before .before .before .before .args) .at) (B.Choice ((c .before .before .before .inner) .given .0 .0)) ((c .before .before .before .before .before .before .if1) .left) (sym ((c .before .before .before .before .before .start-of) .ensures) ∙ (c .before .before .before .inner) .given .1)
 
 element-returns-6 : (t : ℕ) → element-lts.Need-returns-6 (claims t) (element-at t) element.Post element-Inv-loop element-μ-loop
 element-returns-6 t c = sym (list-ends (Inner ((c .before .before .before .before .before .before .before .before .before .args) .depth) ((c .before .before .before .before .inner2) .given .0 .0) ((c .before .before .before .before .before .before .before .before .before .args) .s .now)) ((c .before .before .before .before .before .before .before .before .before .args) .form) ((c .before .before .loop) .inv .1 .0) ((c .before .before .loop) .low) ((c .before .before .before .before .before .before .before .before .before .args) .s .now) ((c .before .before .loop) .p) (omega (arith, (c .before .before .loop) .inv)) (sym ((c .before .closes-at) .ensures) ∙ not-false _ ((c .if2) .left))) ∙ (c .before .before .loop) .inv .1 .2
 
-pub +element-spec : {M : Type 1} → statement M
-+element-spec = close μ-element λ t. element-lts.spec (claims t)
+pub +element-within-spec : {M : Type 1} → statement M
++element-within-spec = close μ-element λ t. element-lts.spec (claims t)
     (element-at t)
     element.Post
     element-Inv-loop
