@@ -139,6 +139,12 @@ stand-append s [] qs (i ∷ is) js a b = absurd a
 stand-append s (p ∷ ps) qs [] js a b = absurd a
 stand-append s (p ∷ ps) qs (i ∷ is) js a b = (a .0, stand-append s ps qs is js (a .1) b)
 
+stand-count : (s : List ℕ) (ps : List ℕ) (is : List Identifier) → Stand s ps is → length ps ≡ length is
+stand-count s [] [] h = refl
+stand-count s [] (i ∷ is) h = absurd h
+stand-count s (p ∷ ps) [] h = absurd h
+stand-count s (p ∷ ps) (i ∷ is) h = ap suc (stand-count s ps is (h .1))
+
 object-known : {s : List ℕ} {p q : ℕ} (o : ObjectIdElement s p q) → localAt s p ≡ I.Found (D.Local (objectWritten o))
 unfolding localAt
 object-known {s} {p} (Z.number c) = rw (eq-eqb (getD s p 0) 160 (c .tagged .is)) (ap numberAnswer (integer-written (c .one)))
@@ -219,13 +225,18 @@ module _ (header : List ℕ) (start end : ℕ) (good : GoodRecord header start e
       ∙ title-number (titlesOf (take end header) start) k
       ∙ ap (λ (ts : List Span). numbered ts k T.Title (λ _. T.Refused NoSuchSequence)) titles-are
 
+  identifiers-stand : Stand (take end header) (identifiersOf (take end header) start) (identifiersWritten good)
+  unfolding identifiersOf
+  identifiers-stand = set-stand (suc (length (take end header))) (omega arith) (good .shape .items)
+
+  pub identifiers-count : length (identifiersOf (take end header) start) ≡ length (identifiersWritten good)
+  identifiers-count = stand-count (take end header) (identifiersOf (take end header) start) (identifiersWritten good) identifiers-stand
+
   -- the identifier call gives identifier k of those that a good record writes, or 10
   pub identifier-is : (k : ℕ) → identifierOf header start end k ≡ numbered (identifiersWritten good) k I.Found (λ _. I.Refused NoSuchSequence)
-  unfolding identifiersOf
   identifier-is k =
       sym (identifier-passed header start end k _ (good-passes header start end good) refl)
-      ∙ place-number (take end header) (identifiersOf (take end header) start) (identifiersWritten good) k
-      (set-stand (suc (length (take end header))) (omega arith) (good .shape .items))
+      ∙ place-number (take end header) (identifiersOf (take end header) start) (identifiersWritten good) k identifiers-stand
 
   -- the first title call gives the title of the first def-line that a good record writes
   pub first-is : firstOf header start end ≡ firstWritten good

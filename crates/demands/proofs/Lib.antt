@@ -1,4 +1,5 @@
 pub mod Demand1
+pub mod Order
 pub mod LargeFirst
 pub mod Table
 pub mod Demand2Packets

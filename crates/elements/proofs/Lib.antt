@@ -4,4 +4,5 @@ pub mod Began
 pub mod Exact
 pub mod Shape
 pub mod Written
+pub mod Refusals
 pub mod Examples

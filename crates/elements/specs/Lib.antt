@@ -3,5 +3,6 @@ pub mod Parts
 pub mod Reading
 pub mod Answers
 pub mod Statement
+pub mod Deep
 pub mod DefLines
 pub mod Written

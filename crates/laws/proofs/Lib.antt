@@ -15,3 +15,4 @@ pub mod Sizes
 pub mod Rising
 pub mod Storing
 pub mod Largest
+pub mod First

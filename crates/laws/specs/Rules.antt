@@ -2,8 +2,8 @@
 -- R is the type of the refusals, A that of the answers.
 -- Assumes nothing.
 use mathlib.Core.Path.{_≡_}
-use mathlib.Core.Bool.{Bool, true, cond}
-use mathlib.Core.List.{List, [], _∷_}
+use mathlib.Core.Bool.{Bool, true, false, cond}
+use mathlib.Core.List.{List, [], _∷_, _++_}
 
 -- A rule: the test that passes where it holds, and the refusal where it is broken.
 pub record Rule (R : Type 0) : Type 0 where
@@ -22,3 +22,13 @@ verdict refused passed (r ∷ rs) = cond (r .holds) (verdict refused passed rs) 
 abbrev pub AllHold : {R : Type 0} → List (Rule R) → Type 0
 AllHold [] = Unit
 AllHold (r ∷ rs) = (r .holds ≡ true) × AllHold rs
+
+-- A rule that fails with the refusal r, and every rule before it holds.
+pub record FirstBroken {R : Type 0} (rules : List (Rule R)) (r : R) : Type 0 where
+  pub before : List (Rule R)
+  pub broken : Rule R
+  pub after : List (Rule R)
+  pub whole : rules ≡ before ++ (broken ∷ after)
+  pub hold : AllHold before
+  pub fails : broken .holds ≡ false
+  pub cause : broken .refusal ≡ r
