@@ -1,21 +1,23 @@
--- Demand 2 for volumes, sets, header records and sequences: a check passes exactly when document 01's rules hold, what decoding can answer for a
--- sequence of a volume that passes, and what it gives. Packing and unpacking are in Demand2Packets. Assumes nothing.
-use mathlib.Core.Path.{_≡_}
-use mathlib.Core.Bool.{true, false}
+-- Demand 2 for volumes, sets, header records and sequences: a check passes, and a sequence decodes, exactly when document 01's rules hold; what decoding
+-- can answer for a sequence of a volume that passes, and what it gives. Packing and unpacking are in Demand2Packets. Assumes nothing.
+use mathlib.Core.Path.{_≡_, refl, ap}
 use mathlib.Core.List.{List, [], _∷_}
-use Prim.Native.Nat.{ℕ, _+_, _≤_, _<_}
+use mathlib.Core.Logic.{_⊎_}
+use Prim.Native.Nat.{ℕ, _+_, _-_, _/_, _%_, _^_, _≤_, _<_}
+use lib.IntN.{pos}
 use lib.ListN.{length, getD}
 use Rattle.answers.specs.declared.Checked.the-variants as Check
-use Rattle.residues.specs.Tables.{proteinCode}
-use Rattle.volume.specs.Index.{isProtein, sequences}
+use Rattle.residues.specs.Tables.{ambiguityCode, proteinCode}
+use Rattle.volume.specs.Index.{statedType, sequences}
 use Rattle.volume.specs.Tables.{sequenceStart, proteinLength, dnaEnd, dnaLength, sequenceLength}
 use Rattle.volume.specs.Volume.{volumeRecord, volumeAnswer, volumeNumber, volumeValues, recordValues}
 use Rattle.volume.specs.Holds.{VolumeHolds}
 use Rattle.volume.proofs.Exact as Exact
 use Rattle.sequence.specs.Checked.{OnlyResidues}
-use Rattle.sequence.specs.Bases.{baseAt}
-use Rattle.sequence.specs.Corrections.{entryWidth, entryCount, correctedAt}
+use Rattle.sequence.specs.Corrections.{correctionOf, correctionAt}
 use Rattle.sequence.specs.Sequence.{rangeEnd, decodeAnswer, decodeOutput, decodeNumber, decodeValues}
+use Rattle.sequence.specs.Holds.{HasEntries, RangeHolds, SequenceHolds}
+use Rattle.sequence.proofs.Exact as Decoding
 use Rattle.sequence.proofs.Checked as Sequence
 use Rattle.dsqdata.specs.Header.{recordOf}
 use Rattle.dsqdata.specs.Check as Set
@@ -61,6 +63,23 @@ module _ (header : List ℕ) (start end : ℕ) where
 
 -- ---- one sequence
 
+module _ (index sequence : List ℕ) (i room : ℕ) where
+  -- Decoding answers 0 only for a sequence of which the rules hold, and returns L, its length.
+  pub sequence-decodes-only : decodeNumber (decodeAnswer index sequence i room) ≡ 0
+      → SequenceHolds index sequence i room × (decodeValues (decodeAnswer index sequence i room) ≡ sequenceLength index sequence i ∷ [])
+  sequence-decodes-only z = let p = Decoding.zero-rules index sequence i room z in (p .0, ap decodeValues (p .1))
+
+  -- It answers 0 for every sequence of which they hold.
+  pub sequence-decodes : SequenceHolds index sequence i room → decodeNumber (decodeAnswer index sequence i room) ≡ 0
+  sequence-decodes = Decoding.rules-zero index sequence i room
+
+  -- A protein is never refused with 12, DNA never with 11.
+  pub protein-never-12 : statedType index ≡ pos 1 → decodeNumber (decodeAnswer index sequence i room) ≡ 12 → ⊥
+  protein-never-12 = Decoding.protein-never-12 index sequence i room
+
+  pub dna-never-11 : statedType index ≡ pos 0 → decodeNumber (decodeAnswer index sequence i room) ≡ 11 → ⊥
+  dna-never-11 = Decoding.dna-never-11 index sequence i room
+
 module _ (index sequence header : List ℕ) (passes : volumeNumber (volumeAnswer index sequence header) ≡ 0) (i : ℕ) (below : i < sequences index) (room : ℕ) where
   -- For every sequence of a volume that passes the volume check only 11, 12 and 13 remain, and 13 only where the room is below L, the length
   -- that the check summed.
@@ -71,25 +90,47 @@ module _ (index sequence header : List ℕ) (passes : volumeNumber (volumeAnswer
   pub decode-has-room : sequenceLength index sequence i ≤ room → decodeNumber (decodeAnswer index sequence i room) ≡ 13 → ⊥
   decode-has-room = Sequence.decode-has-room index sequence header passes i below room
 
--- A sequence that decodes: L is returned, the output had room for it, and its first L bytes are the residues that the format gives, corrections applied.
+  -- With room for L bytes a protein without a byte above 27 decodes, and DNA with a good ambiguity range.
+  pub checked-protein-decodes : statedType index ≡ pos 1 → proteinLength index i ≤ room
+      → ((k : ℕ) → k < proteinLength index i → getD sequence (sequenceStart index i + k) 0 ≤ 27) → decodeNumber (decodeAnswer index sequence i room) ≡ 0
+  checked-protein-decodes = Sequence.checked-protein-decodes index sequence header passes i below room
+
+  pub checked-dna-decodes : statedType index ≡ pos 0 → dnaLength index sequence i ≤ room
+      → RangeHolds sequence (dnaEnd index i) (rangeEnd index i) (dnaLength index sequence i) → decodeNumber (decodeAnswer index sequence i room) ≡ 0
+  checked-dna-decodes = Sequence.checked-dna-decodes index sequence header passes i below room
+
+-- The entries of an ambiguity range. Of 4 bytes: 4 bits value, 4 bits repeat less one, 24 bits offset; of 8 bytes: 4, 12 and 48 bits.
+pub narrow-entry : (entry : ℕ) → correctionOf 4 entry ≡ record { value = entry / 2 ^ 28; start = entry % 2 ^ 24; length = entry / 2 ^ 24 % 2 ^ 4 + 1 }
+unfolding correctionOf
+narrow-entry entry = refl
+
+pub wide-entry : (entry : ℕ) → correctionOf 8 entry ≡ record { value = entry / 2 ^ 60; start = entry % 2 ^ 48; length = entry / 2 ^ 48 % 2 ^ 12 + 1 }
+unfolding correctionOf
+wide-entry entry = refl
+
+-- A sequence that decodes: its first L bytes are the residues that the format gives, corrections applied, and the other bytes are as they were.
 module _ (index sequence : List ℕ) (i : ℕ) (output : List ℕ) (decodes : decodeNumber (decodeAnswer index sequence i (length output)) ≡ 0) where
-  pub decode-returns : (decodeValues (decodeAnswer index sequence i (length output)) ≡ sequenceLength index sequence i ∷ []) × (sequenceLength index sequence i ≤ length output)
-  decode-returns = (Given.decoded-values index sequence i output decodes, Given.decoded-room index sequence i output decodes)
-
-  -- residue k of a protein is the code of byte k from S[i] on; the other bytes are as they were
-  pub protein-residue : isProtein index ≡ true → (k d : ℕ) → k < proteinLength index i
+  -- residue k of a protein is the code of byte k from S[i] on
+  pub protein-residue : statedType index ≡ pos 1 → (k d : ℕ) → k < proteinLength index i
       → getD (decodeOutput index sequence i output) k d ≡ proteinCode (getD sequence (sequenceStart index i + k) 0)
-  protein-residue = Given.protein-decoded index sequence i output decodes
+  protein-residue e = Given.protein-decoded index sequence i output decodes (Exact.protein-type index e)
 
-  pub protein-rest : isProtein index ≡ true → (k d : ℕ) → proteinLength index i ≤ k → getD (decodeOutput index sequence i output) k d ≡ getD output k d
-  protein-rest = Given.protein-rest index sequence i output decodes
+  pub protein-rest : statedType index ≡ pos 1 → (k d : ℕ) → proteinLength index i ≤ k → getD (decodeOutput index sequence i output) k d ≡ getD output k d
+  protein-rest e = Given.protein-rest index sequence i output decodes (Exact.protein-type index e)
 
-  -- residue k of a DNA sequence is the code of the entry that covers it, or its base
-  pub dna-residue : isProtein index ≡ false → (k d : ℕ) → k < dnaLength index sequence i →
-      let range = dnaEnd index i in
-      getD (decodeOutput index sequence i output) k d
-      ≡ correctedAt sequence (range + 4) (entryWidth sequence range) (entryCount sequence range (rangeEnd index i)) k (baseAt sequence (sequenceStart index i) k)
-  dna-residue = Given.dna-decoded index sequence i output decodes
+  -- residue k of a DNA sequence whose ambiguity range has n entries of w bytes: where entry j covers it, the code of that entry's value ..
+  pub dna-covered : statedType index ≡ pos 0 → (w n : ℕ) → HasEntries sequence (dnaEnd index i) (rangeEnd index i) w n → (k d j : ℕ) → j < n →
+      let entry = correctionAt sequence (dnaEnd index i + 4) w j in
+      entry .start ≤ k → k < entry .start + entry .length → getD (decodeOutput index sequence i output) k d ≡ ambiguityCode (entry .value)
+  dna-covered e = Given.dna-covered index sequence i output decodes (Exact.dna-type index e)
 
-  pub dna-rest : isProtein index ≡ false → (k d : ℕ) → dnaLength index sequence i ≤ k → getD (decodeOutput index sequence i output) k d ≡ getD output k d
-  dna-rest = Given.dna-rest index sequence i output decodes
+  -- .. and where none does, its base: two bits of a byte from S[i] on, highest first
+  pub dna-base : statedType index ≡ pos 0 → (w n : ℕ) → HasEntries sequence (dnaEnd index i) (rangeEnd index i) w n → (k d : ℕ) → k < dnaLength index sequence i
+      → ((j : ℕ) → j < n →
+      let entry = correctionAt sequence (dnaEnd index i + 4) w j in
+      (k < entry .start) ⊎ (entry .start + entry .length ≤ k))
+      → getD (decodeOutput index sequence i output) k d ≡ getD sequence (sequenceStart index i + k / 4) 0 / 4 ^ (3 - k % 4) % 4
+  dna-base e = Given.dna-base index sequence i output decodes (Exact.dna-type index e)
+
+  pub dna-rest : statedType index ≡ pos 0 → (k d : ℕ) → dnaLength index sequence i ≤ k → getD (decodeOutput index sequence i output) k d ≡ getD output k d
+  dna-rest e = Given.dna-rest index sequence i output decodes (Exact.dna-type index e)

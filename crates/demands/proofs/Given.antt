@@ -1,46 +1,39 @@
 -- What a sequence that decodes leaves in the output, place by place. Assumes nothing.
-use mathlib.Core.Path.{_≡_, refl, sym, ap, _∙_}
+use mathlib.Core.Path.{_≡_, sym, ap, _∙_}
 use mathlib.Core.Bool.{true, false}
-use mathlib.Core.List.{List, _++_}
-use Prim.Native.Nat.{ℕ, _+_, _-_, _≤_, _<_}
+use mathlib.Core.List.{List}
+use mathlib.Core.Logic.{_⊎_}
+use Prim.Native.Nat.{ℕ, _+_, _-_, _/_, _%_, _^_, _≤_, _<_}
 use native.Mathlib.Omega.{arith}
 use borrow.Author.Tests.{leb-true}
 use lib.ListN.{length, getD}
 use Rattle.laws.specs.Rules.{AllHold}
 use Rattle.laws.specs.Writing.{writtenAt}
 use Rattle.laws.proofs.Places.{length-listTo, listTo-at}
-use Rattle.laws.proofs.Rules.{hold-second, hold-first}
+use Rattle.laws.proofs.Rules.{hold-second}
 use Rattle.laws.proofs.Storing.{written-inside, written-after}
-use Rattle.answers.proofs.Numbers.{zero-passes}
-use Rattle.residues.specs.Tables.{proteinCode}
-use Rattle.volume.specs.Index.{isProtein, indexRules}
+use Rattle.residues.specs.Tables.{ambiguityCode, proteinCode}
+use Rattle.volume.specs.Index.{isProtein}
 use Rattle.volume.specs.Tables.{sequenceStart, proteinLength, dnaEnd, dnaLength, sequenceLength}
-use Rattle.sequence.specs.declared.DecodeAnswer.the-variants.{Decoded, Refused}
+use Rattle.sequence.specs.declared.DecodeAnswer.the-variants.{Decoded}
 use Rattle.sequence.specs.Bases.{baseAt}
-use Rattle.sequence.specs.Corrections.{entryWidth, entryCount, correctedAt, tableRules}
-use Rattle.sequence.specs.Sequence.{byteFrom, rangeEnd, numberRules, dnaEntryRules, dnaRules, sequenceRules, roomRules, ownRules, decodeSizeRules, decodeRules, decodeAnswer, decodeNumber, decodeValues, proteinCodes, dnaCodes, residuesOf, decodeOutput}
+use Rattle.sequence.specs.Corrections.{entryWidth, entryCount, correctionAt, correctedAt, tableRules}
+use Rattle.sequence.specs.Sequence.{byteFrom, rangeEnd, dnaEntryRules, dnaRules, decodeRules, decodeAnswer, decodeNumber, proteinCodes, dnaCodes, residuesOf, decodeOutput}
+use Rattle.sequence.specs.Holds.{HasEntries}
 use Rattle.sequence.proofs.Answers.{residues-protein, residues-dna, output-by}
 use Rattle.sequence.proofs.Corrected.{length-residues, residue-at}
+use Rattle.sequence.proofs.Exact.{DecodeParts, decode-parts, zero-passed, base-of, covered-residue, base-residue}
 
 module _ (index sequence : List ℕ) (i : ℕ) (output : List ℕ) (decodes : decodeNumber (decodeAnswer index sequence i (length output)) ≡ 0) where
   all : AllHold (decodeRules index sequence i (length output)) × (decodeAnswer index sequence i (length output) ≡ Decoded (sequenceLength index sequence i))
-  unfolding decodeAnswer
-  all = zero-passes Refused (Decoded (sequenceLength index sequence i)) decodeNumber (λ r. refl) (decodeRules index sequence i (length output)) decodes
+  all = zero-passed index sequence i (length output) decodes
 
-  -- L is returned
-  pub decoded-values : decodeValues (decodeAnswer index sequence i (length output)) ≡ decodeValues (Decoded (sequenceLength index sequence i))
-  decoded-values = ap decodeValues (all .1)
-
-  own-hold : AllHold (sequenceRules index sequence i ++ roomRules (sequenceLength index sequence i) (length output))
-  unfolding decodeRules
-  own-hold =
-      let own = ownRules index sequence i (length output) in
-      let a = hold-second (decodeSizeRules index sequence) (indexRules index ++ own) (all .0) in
-      hold-second (numberRules index i) (sequenceRules index sequence i ++ roomRules (sequenceLength index sequence i) (length output)) (hold-second (indexRules index) own a)
+  parts : DecodeParts index sequence i (length output)
+  parts = decode-parts index sequence i (length output) (all .0)
 
   -- the output has room for the codes
-  pub decoded-room : sequenceLength index sequence i ≤ length output
-  decoded-room = leb-true (sequenceLength index sequence i) (length output) (hold-second (sequenceRules index sequence i) (roomRules (sequenceLength index sequence i) (length output)) own-hold .0)
+  decoded-room : sequenceLength index sequence i ≤ length output
+  decoded-room = leb-true (sequenceLength index sequence i) (length output) (parts .fits)
 
   decoded-output : decodeOutput index sequence i output ≡ writtenAt 0 (residuesOf index sequence i) output
   decoded-output = sym (output-by index sequence i output (Decoded (sequenceLength index sequence i)) (sym (all .1)))
@@ -86,7 +79,7 @@ module _ (index sequence : List ℕ) (i : ℕ) (output : List ℕ) (decodes : de
   module _ (t : isProtein index ≡ false) where
     range-holds : AllHold (tableRules sequence (dnaEnd index i) (rangeEnd index i) (dnaLength index sequence i))
     range-holds =
-        let a = hold-first (sequenceRules index sequence i) (roomRules (sequenceLength index sequence i) (length output)) own-hold in
+        let a = parts .ownHold in
         let b : AllHold (dnaRules index sequence i) = rw t at a in
         hold-second (dnaEntryRules index sequence i) (tableRules sequence (dnaEnd index i) (rangeEnd index i) (dnaLength index sequence i)) b
 
@@ -96,13 +89,32 @@ module _ (index sequence : List ℕ) (i : ℕ) (output : List ℕ) (decodes : de
     dna-room : dnaLength index sequence i ≤ length output
     dna-room = let r = decoded-room in rw t at r
 
-    -- the code of the entry that covers the place, or the base
-    pub dna-decoded : (k d : ℕ) → k < dnaLength index sequence i
+    dna-decoded : (k d : ℕ) → k < dnaLength index sequence i
         → getD (decodeOutput index sequence i output) k d
         ≡ correctedAt sequence (dnaEnd index i + 4) (entryWidth sequence (dnaEnd index i)) (entryCount sequence (dnaEnd index i) (rangeEnd index i)) k (baseAt sequence (sequenceStart index i) k)
     dna-decoded k d h =
         code-at (dnaCodes index sequence i) (residues-dna index sequence i t) (dnaLength index sequence i) dna-count dna-room k d h
         ∙ residue-at sequence (sequenceStart index i) (dnaEnd index i) (rangeEnd index i) (dnaLength index sequence i) range-holds k d h
+
+    module _ (w n : ℕ) (e : HasEntries sequence (dnaEnd index i) (rangeEnd index i) w n) (k d : ℕ) where
+      -- the code of the entry that covers the place
+      pub dna-covered : (j : ℕ) → j < n →
+          let entry = correctionAt sequence (dnaEnd index i + 4) w j in
+          entry .start ≤ k → k < entry .start + entry .length → getD (decodeOutput index sequence i output) k d ≡ ambiguityCode (entry .value)
+      dna-covered j h a b =
+          let c = covered-residue sequence (dnaEnd index i) (rangeEnd index i) (dnaLength index sequence i) w n range-holds e k (baseAt sequence (sequenceStart index i) k) j h a b in
+          dna-decoded k d (c .0) ∙ c .1
+
+      -- the base where none does
+      pub dna-base : k < dnaLength index sequence i
+          → ((j : ℕ) → j < n →
+          let entry = correctionAt sequence (dnaEnd index i + 4) w j in
+          (k < entry .start) ⊎ (entry .start + entry .length ≤ k))
+          → getD (decodeOutput index sequence i output) k d ≡ getD sequence (sequenceStart index i + k / 4) 0 / 4 ^ (3 - k % 4) % 4
+      dna-base h o =
+          dna-decoded k d h
+          ∙ base-residue sequence (dnaEnd index i) (rangeEnd index i) (dnaLength index sequence i) w n range-holds e k (baseAt sequence (sequenceStart index i) k) o
+          ∙ base-of sequence (sequenceStart index i) k
 
     pub dna-rest : (k d : ℕ) → dnaLength index sequence i ≤ k → getD (decodeOutput index sequence i output) k d ≡ getD output k d
     dna-rest = rest-at (dnaCodes index sequence i) (residues-dna index sequence i t) (dnaLength index sequence i) dna-count dna-room

@@ -5,18 +5,21 @@ use mathlib.Core.List.{List, _++_}
 use mathlib.Core.Logic.{_⊎_, inl, inr, ⊎-elim}
 use Prim.Native.Nat.{ℕ, _+_, _≤_, _<_}
 use native.Mathlib.Omega.{arith}
-use borrow.Author.Tests.{leb-false}
+use borrow.Author.Tests.{leb-false, le-leb, lt-ltb}
 use lib.Dec.{leb}
+use lib.IntN.{pos}
+use lib.ListN.{getD}
 use Rattle.laws.specs.Places.{every}
 use Rattle.laws.specs.Rules.{Rule, verdict, AllHold}
-use Rattle.laws.proofs.Rules.{verdict-passes, verdict-append}
+use Rattle.laws.proofs.Places.{every-all}
+use Rattle.laws.proofs.Rules.{verdict-passes, verdict-append, hold-append}
 use Rattle.laws.proofs.Tests.{bool-cases}
 use Rattle.answers.specs.declared.Refusal.{Refusal}
 use Rattle.answers.specs.declared.Refusal.the-variants.{BadProteinByte, BadAmbiguity, NoRoom}
 use Rattle.answers.specs.declared.Checked.the-variants as Check
 use Rattle.answers.proofs.Checks.{holds-passed}
 use Rattle.volume.specs.declared.IndexAnswer.the-variants as Index
-use Rattle.volume.specs.Index.{isProtein, sequences, indexRules, indexOf}
+use Rattle.volume.specs.Index.{statedType, isProtein, sequences, indexRules, indexOf}
 use Rattle.volume.specs.Tables.{sequenceStart, proteinLength, dnaEnd, dnaLength, sequenceLength, proteinOffsetRules, proteinSeparatorRules, dnaOffsetRules}
 use Rattle.volume.specs.Volume.{volumeAnswer, volumeNumber}
 use Rattle.volume.proofs.Exact as Exact
@@ -24,8 +27,10 @@ use Rattle.sequence.specs.declared.DecodeAnswer.{DecodeAnswer}
 use Rattle.sequence.specs.declared.DecodeAnswer.the-variants.{Decoded, Refused}
 use Rattle.sequence.specs.Checked.{OnlyResidues}
 use Rattle.sequence.specs.Corrections.{isTable, entryWidth, entryCount, entryFits, tableRules}
-use Rattle.sequence.specs.Sequence.{rangeEnd, isProteinByte, proteinEntryRules, proteinByteRules, dnaEntryRules, roomRules, decodeSizeRules, ownAnswer, decodeAnswer, decodeNumber}
+use Rattle.sequence.specs.Sequence.{rangeEnd, isProteinByte, proteinEntryRules, proteinByteRules, dnaEntryRules, sequenceRules, roomRules, decodeSizeRules, ownAnswer, decodeAnswer, decodeNumber}
+use Rattle.sequence.specs.Holds.{RangeHolds}
 use Rattle.sequence.proofs.Answers.{own-protein, own-dna, decode-read}
+use Rattle.sequence.proofs.Exact.{range-test, parts-zero}
 use Rattle.sequence.proofs.Passed.{protein-entries, dna-entries}
 
 -- the room decides last
@@ -55,20 +60,32 @@ module _ (index sequence header : List ℕ) (passes : volumeNumber (volumeAnswer
   parts : Exact.VolumeParts index sequence header
   parts = Exact.volume-parts index sequence header (Exact.zero-all index sequence header passes)
 
+  sizes-hold : AllHold (decodeSizeRules index sequence)
+  sizes-hold = (parts .sizesHold .0, (parts .sizesHold .1 .0, tt))
+
+  protein-holds : isProtein index ≡ true → AllHold (proteinEntryRules index sequence i)
+  protein-holds t =
+      let p = parts .sequencesHold in
+      let q = parts .separatorsHold in
+      let o : AllHold (proteinOffsetRules index sequence) = rw t at p in
+      let s : AllHold (proteinSeparatorRules index sequence) = rw t at q in
+      protein-entries index sequence o s i below
+
+  dna-holds : isProtein index ≡ false → AllHold (dnaEntryRules index sequence i)
+  dna-holds t =
+      let p = parts .sequencesHold in
+      let o : AllHold (dnaOffsetRules index sequence) = rw t at p in
+      dna-entries index sequence o i below
+
   own-decides : ownAnswer index sequence i room ≡ decodeAnswer index sequence i room
   own-decides =
-      let sizes : AllHold (decodeSizeRules index sequence) = (parts .sizesHold .0, (parts .sizesHold .1 .0, tt)) in
-      decode-read index sequence i room Check.Passed (sym (holds-passed (decodeSizeRules index sequence) sizes)) refl (indexOf index)
+      decode-read index sequence i room Check.Passed (sym (holds-passed (decodeSizeRules index sequence) sizes-hold)) refl (indexOf index)
       (verdict-passes Index.Refused (Index.Read (indexOf index)) (indexRules index) (parts .indexHolds))
 
   protein-only : isProtein index ≡ true → OnlyResidues index sequence i room
   protein-only t =
       let rest = proteinByteRules sequence (sequenceStart index i) (proteinLength index i) in
-      let p = parts .sequencesHold in
-      let q = parts .separatorsHold in
-      let o : AllHold (proteinOffsetRules index sequence) = rw t at p in
-      let s : AllHold (proteinSeparatorRules index sequence) = rw t at q in
-      let h = protein-entries index sequence o s i below in
+      let h = protein-holds t in
       let e : decodeAnswer index sequence i room ≡ verdict Refused (last (proteinLength index i) room) rest =
       sym own-decides ∙ sym (own-protein index sequence i room below t) ∙ entries-hold (proteinLength index i) room (proteinEntryRules index sequence i) rest h in
       let d = decided (proteinLength index i) room (decodeAnswer index sequence i room) true (every (isProteinByte sequence (sequenceStart index i)) (proteinLength index i)) BadProteinByte e in
@@ -80,9 +97,7 @@ module _ (index sequence header : List ℕ) (passes : volumeNumber (volumeAnswer
       let place = dnaEnd index i in
       let end = rangeEnd index i in
       let rest = tableRules sequence place end l in
-      let p = parts .sequencesHold in
-      let o : AllHold (dnaOffsetRules index sequence) = rw t at p in
-      let h = dna-entries index sequence o i below in
+      let h = dna-holds t in
       let e : decodeAnswer index sequence i room ≡ verdict Refused (last l room) rest =
       sym own-decides ∙ sym (own-dna index sequence i room below t) ∙ entries-hold l room (dnaEntryRules index sequence i) rest h in
       let d = decided l room (decodeAnswer index sequence i room) (isTable sequence place end) (every (entryFits sequence (place + 4) (entryWidth sequence place) l) (entryCount sequence place end)) BadAmbiguity e in
@@ -102,3 +117,25 @@ module _ (index sequence header : List ℕ) (passes : volumeNumber (volumeAnswer
       no (inr (inl a)) = let z : _≡_ {A = ℕ} 11 13 = sym (ap decodeNumber a) ∙ e in omega arith
       no (inr (inr (inl a))) = let z : _≡_ {A = ℕ} 12 13 = sym (ap decodeNumber a) ∙ e in omega arith
       no (inr (inr (inr a))) = let l = a .1 in omega arith
+
+  own-zero : AllHold (sequenceRules index sequence i) → sequenceLength index sequence i ≤ room → decodeNumber (decodeAnswer index sequence i room) ≡ 0
+  own-zero h fits =
+      parts-zero index sequence i room
+      (record { sizesHold = sizes-hold; indexHolds = parts .indexHolds; below = lt-ltb i (sequences index) below; ownHold = h; fits = le-leb _ room fits })
+
+  -- With room for L bytes a protein without a byte above 27 decodes, and DNA with a good ambiguity range.
+  pub checked-protein-decodes : statedType index ≡ pos 1 → proteinLength index i ≤ room
+      → ((k : ℕ) → k < proteinLength index i → getD sequence (sequenceStart index i + k) 0 ≤ 27) → decodeNumber (decodeAnswer index sequence i room) ≡ 0
+  checked-protein-decodes e fits h =
+      let t = Exact.protein-type index e in
+      let rest = proteinByteRules sequence (sequenceStart index i) (proteinLength index i) in
+      let bytes : AllHold rest = (every-all (isProteinByte sequence (sequenceStart index i)) (proteinLength index i) (λ k l. le-leb _ 27 (h k l)), tt) in
+      own-zero (rw t (hold-append (proteinEntryRules index sequence i) rest (protein-holds t) bytes)) (rw t fits)
+
+  pub checked-dna-decodes : statedType index ≡ pos 0 → dnaLength index sequence i ≤ room
+      → RangeHolds sequence (dnaEnd index i) (rangeEnd index i) (dnaLength index sequence i) → decodeNumber (decodeAnswer index sequence i room) ≡ 0
+  checked-dna-decodes e fits h =
+      let t = Exact.dna-type index e in
+      let rest = tableRules sequence (dnaEnd index i) (rangeEnd index i) (dnaLength index sequence i) in
+      let range : AllHold rest = range-test sequence (dnaEnd index i) (rangeEnd index i) (dnaLength index sequence i) h in
+      own-zero (rw t (hold-append (dnaEntryRules index sequence i) rest (dna-holds t) range)) (rw t fits)

@@ -1,6 +1,6 @@
 -- The entries of an ambiguity range that keeps its rules: each lies in the range, and each correction ends within the sequence.
 -- Assumes nothing.
-use mathlib.Core.Path.{_≡_, ap, _∙_}
+use mathlib.Core.Path.{_≡_, refl, sym, ap, _∙_}
 use mathlib.Core.Bool.{Bool, true, false, cond, _&&_, and-false}
 use mathlib.Core.List.{List}
 use mathlib.Core.Logic.{_⊎_, inl, inr, ⊎-elim}
@@ -11,13 +11,14 @@ use native.Mathlib.Omega.{arith}
 use lib.Dec.{leb, eqb, lit<}
 use lib.ListN.{length}
 use lib.Pow.{pow-pos, shl-exact}
-use borrow.Author.Tests.{leb-true, eqb-true, le-leb, lt-leb}
+use borrow.Author.Tests.{leb-true, leb-false, eqb-true, le-leb, lt-leb, eq-eqb, ne-eqb}
 use Rattle.laws.specs.Places.{every}
 use Rattle.laws.specs.Rules.{AllHold}
 use Rattle.laws.proofs.Places.{every-at}
 use Rattle.laws.proofs.Tests.{both-pass}
 use Rattle.sequence.specs.declared.Correction.{Correction}
 use Rattle.sequence.specs.Corrections.{statedWords, isWide, isTable, entryWidth, entryCount, correctionOf, correctionAt, correctionEnd, endBefore, entryFits, tableRules}
+use Rattle.sequence.specs.Holds.{HasEntries, empty, narrow, wide}
 
 -- ---- the width of an entry
 
@@ -52,31 +53,65 @@ correction-small w entry (inr e) h = let l : entry < 18446744073709551616 = rw e
 
 -- ---- the range
 
--- the words that are stated end at the end
-stated-end : (place end words : ℕ) (even : Bool) → (leb (place + 4) end && (eqb (place + 4 + 4 * words) end && even)) ≡ true
-    → place + 4 + 4 * words ≡ end
-stated-end place end words even e =
-    let p = both-pass (leb (place + 4) end) (eqb (place + 4 + 4 * words) end && even) e in
-    eqb-true (place + 4 + 4 * words) end (both-pass (eqb (place + 4 + 4 * words) end) even (p .1) .0)
+module _ (sequence : List ℕ) (place end : ℕ) where
+  -- the words that are stated end at the end, and what is asked of their count holds
+  stated-end : (even : Bool) → (leb (place + 4) end && (eqb (place + 4 + 4 * statedWords sequence place) end && even)) ≡ true
+      → (place + 4 + 4 * statedWords sequence place ≡ end) × (even ≡ true)
+  stated-end even e =
+      let last = eqb (place + 4 + 4 * statedWords sequence place) end in
+      let p = both-pass last even (both-pass (leb (place + 4) end) (last && even) e .1) in
+      (eqb-true (place + 4 + 4 * statedWords sequence place) end (p .0), p .1)
 
-inside : (place end words : ℕ) (empty wide : Bool) (j : ℕ)
-    → cond empty true (leb (place + 4) end && (eqb (place + 4 + 4 * words) end && cond wide (eqb (words % 2) 0) true)) ≡ true
-    → j < cond empty 0 (cond wide (words / 2) words) → place + 4 + cond wide 8 4 * j ≤ end
-inside place end words true wide j e h = absurd (omega arith)
-inside place end words false true j e h = let q = stated-end place end words (eqb (words % 2) 0) e in omega arith
-inside place end words false false j e h = let q = stated-end place end words true e in omega arith
+  by-tests : (none big : Bool) → eqb place end ≡ none → isWide sequence place ≡ big
+      → cond none true (leb (place + 4) end && (eqb (place + 4 + 4 * statedWords sequence place) end && cond big (eqb (statedWords sequence place % 2) 0) true)) ≡ true
+      → HasEntries sequence place end (cond big 8 4) (cond none 0 (cond big (statedWords sequence place / 2) (statedWords sequence place)))
+  by-tests true big e f t = empty (eqb-true place end e) refl
+  by-tests false true e f t =
+      let p = stated-end (eqb (statedWords sequence place % 2) 0) t in
+      let even : statedWords sequence place % 2 ≡ 0 = eqb-true _ _ (p .1) in
+      wide (leb-true _ _ f) (p .0) refl (omega arith)
+  by-tests false false e f t = narrow (leb-false _ _ f) (stated-end true t .0) refl refl
 
--- each entry starts within the range
-pub entry-inside : (sequence : List ℕ) (place end : ℕ) → isTable sequence place end ≡ true → (j : ℕ) → j < entryCount sequence place end
-    → place + 4 + entryWidth sequence place * j ≤ end
-unfolding isTable entryCount entryWidth
-entry-inside sequence place end e j h = inside place end (statedWords sequence place) (eqb place end) (isWide sequence place) j e h
+  -- a range that is a table has its entries
+  pub table-of : isTable sequence place end ≡ true → HasEntries sequence place end (entryWidth sequence place) (entryCount sequence place end)
+  unfolding isTable entryWidth entryCount
+  table-of t = by-tests (eqb place end) (isWide sequence place) refl refl t
 
--- the same of the width and the count that were told
+  some-words : (words : ℕ) → place + 4 + 4 * words ≡ end → eqb place end ≡ false
+  some-words words e = ne-eqb place end (λ f. omega arith)
+
+  module _ (w n : ℕ) where
+    -- and back, with that many entries of that width
+    pub table-test : HasEntries sequence place end w n → isTable sequence place end ≡ true
+    unfolding isTable
+    table-test (empty e z) = rw (eq-eqb place end e)
+    table-test (narrow h e f g) = rw (some-words _ e, le-leb (place + 4) end (omega arith), eq-eqb _ end e, lt-leb 2147483648 _ h)
+    table-test (wide h e f g) =
+        rw (some-words _ e, le-leb (place + 4) end (omega arith), eq-eqb _ end e, le-leb 2147483648 _ h, eq-eqb (statedWords sequence place % 2) 0 (omega arith))
+
+    pub count-of : HasEntries sequence place end w n → entryCount sequence place end ≡ n
+    unfolding entryCount
+    count-of (empty e z) = rw (eq-eqb place end e, z)
+    count-of (narrow h e f g) = rw (some-words _ e, lt-leb 2147483648 _ h) (sym g)
+    count-of (wide h e f g) = rw (some-words _ e, le-leb 2147483648 _ h) (omega arith)
+
+    pub width-of : HasEntries sequence place end w n → 0 < n → entryWidth sequence place ≡ w
+    unfolding entryWidth
+    width-of (empty e z) l = absurd (omega arith)
+    width-of (narrow h e f g) l = rw (lt-leb 2147483648 _ h) (sym f)
+    width-of (wide h e f g) l = rw (le-leb 2147483648 _ h) (sym f)
+
+    -- each entry starts within the range
+    entry-inside : HasEntries sequence place end w n → (j : ℕ) → j < n → place + 4 + w * j ≤ end
+    entry-inside (empty e z) j l = absurd (omega arith)
+    entry-inside (narrow h e f g) j l = rw f (omega arith)
+    entry-inside (wide h e f g) j l = rw f (omega arith)
+
+-- each entry starts within the file, by the width and the count that were told
 pub entry-in-file : (sequence : List ℕ) (place end w n : ℕ) → isTable sequence place end ≡ true → end ≤ length sequence
     → w ≡ entryWidth sequence place → n ≡ entryCount sequence place end → (j : ℕ) → j < n → place + 4 + w * j ≤ length sequence
 entry-in-file sequence place end w n t h e f j l =
-    let i : place + 4 + w * j ≤ end = rw e (entry-inside sequence place end t j (rw (← f) l)) in
+    let i : place + 4 + w * j ≤ end = rw e (entry-inside sequence place end (entryWidth sequence place) (entryCount sequence place end) (table-of sequence place end t) j (rw (← f) l)) in
     omega arith
 
 -- ---- corrections

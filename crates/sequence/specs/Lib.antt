@@ -2,3 +2,4 @@ pub mod Bases
 pub mod Corrections
 pub mod Sequence
 pub mod Checked
+pub mod Holds

@@ -82,7 +82,7 @@ few-test index e h = at-most-test (statedSequences index) mostSequences e h
 whole-of : (index : List ℕ) → IndexParts index → length index ≡ tablesEnd index
 whole-of index p = le-antisymm (leb-true _ _ (p .tables .1 .0)) (leb-true _ _ (p .tables .0))
 
-fields-of : (index : List ℕ) → IndexParts index → FieldsHold index
+pub fields-of : (index : List ℕ) → IndexParts index → FieldsHold index
 fields-of index p =
     let w = whole-of index p in
     record {
@@ -110,7 +110,7 @@ reach-end index place f h = le-leb place (length index) (rw (← ends-at index f
     later true = h
     later false = omega arith
 
-fields-test : (index : List ℕ) → FieldsHold index → AllHold (indexRules index)
+pub fields-test : (index : List ℕ) → FieldsHold index → AllHold (indexRules index)
 unfolding indexRules
 fields-test index f =
     let n = not-negative-test (statedSequences index) (f .number) in
