@@ -27,8 +27,9 @@ use Rattle.runs.specs.declared.PackAnswer.{PackAnswer}
 use Rattle.runs.specs.declared.PackAnswer.the-variants as Pack
 use Rattle.runs.specs.declared.UnpackAnswer.{UnpackAnswer}
 use Rattle.runs.specs.declared.UnpackAnswer.the-variants as Unpack
-use Rattle.volume.specs.Index.{indexAnswer}
+use Rattle.volume.specs.Index.{indexAnswer, indexNumber, indexValues}
 use Rattle.volume.specs.Volume.{volumeAnswer, volumeNumber, volumeValues}
+use Rattle.volume.specs.declared.IndexAnswer.{IndexAnswer}
 use Rattle.volume.specs.declared.IndexAnswer.the-variants as Index
 use Rattle.volume.specs.declared.VolumeAnswer.{VolumeAnswer}
 use Rattle.volume.specs.declared.VolumeAnswer.the-variants as Volume
@@ -38,6 +39,9 @@ use Rattle.sequence.specs.declared.DecodeAnswer.the-variants as Decode
 use Rattle.listing.specs.Listing.{listingRoom, listingText, listingAnswer, listingOutput, listingNumber, listingValues}
 use Rattle.listing.specs.declared.ListingAnswer.{ListingAnswer}
 use Rattle.listing.specs.declared.ListingAnswer.the-variants as Listing
+use Rattle.metadata.specs.Record.{textsIn, textsNumber, textsValues}
+use Rattle.metadata.specs.declared.Texts.{Texts}
+use Rattle.metadata.specs.declared.Texts.the-variants as Metadata
 use Rattle.dsqdata.specs.Check.{setCheck, setNumber, setValues}
 use Rattle.dsqdata.specs.Lookup.{lookupOf, lookupNumber, lookupValues}
 use Rattle.dsqdata.specs.declared.SetRecord.{SetRecord}
@@ -125,6 +129,10 @@ unpack-answered : (x : UnpackAnswer) → Answered (unpackNumber x) (unpackValues
 unpack-answered (Unpack.Unpacked n l) = fine (unpackValues (Unpack.Unpacked n l))
 unpack-answered (Unpack.Refused r) = refused r
 
+index-answered : (x : IndexAnswer) → Answered (indexNumber x) (indexValues x)
+index-answered (Index.Read x) = fine (indexValues (Index.Read x))
+index-answered (Index.Refused r) = refused r
+
 volume-answered : (x : VolumeAnswer) → Answered (volumeNumber x) (volumeValues x)
 volume-answered (Volume.Passed v) = fine (volumeValues (Volume.Passed v))
 volume-answered (Volume.Refused r) = refused r
@@ -136,6 +144,10 @@ decode-answered (Decode.Refused r) = refused r
 listing-answered : (x : ListingAnswer) → Answered (listingNumber x) (listingValues x)
 listing-answered (Listing.Written n) = fine (listingValues (Listing.Written n))
 listing-answered (Listing.Refused r) = refused r
+
+texts-answered : (x : Texts) → Answered (textsNumber x) (textsValues x)
+texts-answered (Metadata.Lengths n a d) = fine (textsValues (Metadata.Lengths n a d))
+texts-answered Metadata.Bad = refused R.BadMetadata
 
 set-answered : (x : SetAnswer) → Answered (setNumber x) (setValues x)
 set-answered (Set.Passed s) = fine (setValues (Set.Passed s))
@@ -291,9 +303,9 @@ pub check-volume-call : (index sequence header : List ℕ) →
     Answered (volumeNumber answer) (volumeValues answer)
 check-volume-call index sequence header = volume-answered (volumeAnswer index sequence header)
 
--- `read_index`, whose refusals its callers hand on
-pub read-index-call : (index : List ℕ) (r : Refusal) → indexAnswer index ≡ Index.Refused r → InTable (numberOf r)
-read-index-call index r e = cause-numbered r
+-- `read_index`
+pub read-index-call : (index : List ℕ) → Answered (indexNumber (indexAnswer index)) (indexValues (indexAnswer index))
+read-index-call index = index-answered (indexAnswer index)
 
 -- `gull_check_volume` and its results
 pub gull-check-volume-call : (index sequence header results : List ℕ) →
@@ -323,6 +335,10 @@ write-listing-call index sequence header out =
 
 -- ---- sets
 
+-- `read_record`
+pub read-record-call : (file : List ℕ) (start end : ℕ) → Answered (textsNumber (textsIn file start end)) (textsValues (textsIn file start end))
+read-record-call file start end = texts-answered (textsIn file start end)
+
 -- `check_set`
 pub check-set-call : (index metadata sequence : List ℕ) →
     let answer = setCheck index metadata sequence in
@@ -347,8 +363,8 @@ gull-time-check-set-call index metadata sequence results =
 -- ---- header records
 
 -- `element`, `integer` and `text`
-pub element-call : (depth : ℕ) (form : Form) (s : List ℕ) (at : ℕ) → Answered (elementNumber (read depth form s at)) (elementValues (read depth form s at))
-element-call depth form s at = element-answered (read depth form s at)
+pub element-call : (form : Form) (s : List ℕ) (at : ℕ) → Answered (elementNumber (read 16 form s at)) (elementValues (read 16 form s at))
+element-call form s at = element-answered (read 16 form s at)
 
 pub integer-call : (s : List ℕ) (at : ℕ) → Answered (integerNumber (integerAt s at)) (integerValues (integerAt s at))
 integer-call s at = integer-answered (integerAt s at)

@@ -13,6 +13,7 @@ use Rattle.answers.specs.declared.Refusal.the-variants.{TooLarge}
 use Rattle.answers.specs.declared.Checked.the-variants as Check
 use Rattle.runs.specs.Answers.{packRules, packAnswer, packNumber, unpackAnswer, unpackNumber}
 use Rattle.byte_runs.specs.Bytes.{packBytesAnswer, unpackBytesAnswer}
+use Rattle.volume.specs.Index.{indexAnswer, indexNumber}
 use Rattle.volume.specs.Volume.{volumeRules, volumeAnswer, volumeNumber}
 use Rattle.sequence.specs.Sequence.{decodeRules, decodeAnswer, decodeNumber}
 use Rattle.dsqdata.specs.Check.{sizeRules, fileRules, setRules, setCheck, setNumber}
@@ -78,6 +79,14 @@ module _ {A : Type 0} (refused : A) where
   two a b passed (inl h) = rw (not-fit a h)
   two a b passed (inr (inl h)) = rw (not-fit b h, always)
 
+-- one of two files, told in the other order
+exchanged : (a b : List ℕ) → SomeLarge (a ∷ b ∷ []) → SomeLarge (b ∷ a ∷ [])
+exchanged a b (inl h) = inr (inl h)
+exchanged a b (inr (inl h)) = inl h
+
+pub read-index-large : (index : List ℕ) → LargeBytes index → indexNumber (indexAnswer index) ≡ 22
+read-index-large index h = rw (not-fit index h)
+
 module _ (index sequence header : List ℕ) (h : SomeLarge (index ∷ sequence ∷ header ∷ [])) where
   pub check-volume-large : volumeNumber (volumeAnswer index sequence header) ≡ 22
   unfolding volumeAnswer volumeRules
@@ -89,7 +98,7 @@ module _ (index sequence header : List ℕ) (h : SomeLarge (index ∷ sequence �
 
 pub decode-large : (index sequence : List ℕ) (number room : ℕ) → SomeLarge (index ∷ sequence ∷ []) → decodeNumber (decodeAnswer index sequence number room) ≡ 22
 unfolding decodeAnswer decodeRules
-decode-large index sequence number room h = ap decodeNumber (two _ index sequence _ h)
+decode-large index sequence number room h = ap decodeNumber (two _ sequence index _ (exchanged index sequence h))
 
 module _ (index metadata sequence : List ℕ) (h : SomeLarge (index ∷ metadata ∷ sequence ∷ [])) where
   pub check-set-large : setNumber (setCheck index metadata sequence) ≡ 22
@@ -132,4 +141,5 @@ module _ (header : List ℕ) (start end : ℕ) (h : LargeBytes header) where
 
 pub label-large : (index header : List ℕ) (number : ℕ) → SomeLarge (index ∷ header ∷ []) → labelNumber (labelOf index header number) ≡ 22
 unfolding labelOf
-label-large index header number h = ap labelNumber (two _ index header _ h)
+label-large index header number (inl h) = rw (not-fit index h, always)
+label-large index header number (inr (inl h)) = rw (not-fit header h)

@@ -34,7 +34,7 @@ use Rattle.runs.specs.Answers.{packRules, packAnswer, packNumber, unpackRules, 
 use Rattle.byte_runs.specs.Bytes.{packBytesAnswer, unpackBytesRules, unpackBytesAnswer}
 use Rattle.runs.specs.declared.PackAnswer.the-variants as Pack
 use Rattle.runs.specs.declared.UnpackAnswer.the-variants as Unpack
-use Rattle.volume.specs.Index.{titleLength, sequences, indexRules, indexOf, indexAnswer}
+use Rattle.volume.specs.Index.{titleLength, sequences, indexOf, readRules, indexAnswer, indexNumber}
 use Rattle.volume.specs.Volume.{volumeRules, volumeRecord, volumeAnswer, volumeNumber}
 use Rattle.volume.specs.Tables.{sequenceLength}
 use Rattle.volume.specs.declared.IndexAnswer.the-variants as Index
@@ -151,14 +151,9 @@ module _ (alphabet : ℕ) where
 
 -- ---- volumes
 
--- `read_index`: field by field, 1 and then its value, 2, 3, 4 or 5; the tables 1, 6
-pub read-index-order : (index : List ℕ) →
-    ((r : Refusal) → (indexAnswer index ≡ Index.Refused r) ↔ FirstBroken (indexRules index) r)
-    × ((indexAnswer index ≡ Index.Read (indexOf index)) ↔ AllHold (indexRules index))
-read-index-order index =
-    let apart : (r : Refusal) → Index.Refused r ≡ Index.Read (indexOf index) → ⊥ = λ r e. let z : _≡_ {A = ℕ} 0 1 = cc in omega arith in
-    let same : (r s : Refusal) → Index.Refused r ≡ Index.Refused s → r ≡ s = λ r s e. cc in
-    (verdict-refuses Index.Refused (Index.Read (indexOf index)) apart same (indexRules index), verdict-holds Index.Refused (Index.Read (indexOf index)) apart same (indexRules index))
+-- `read_index`: 22; field by field, 1 and then its value, 2, 3, 4 or 5; the tables 1, 6
+pub read-index-order : (index : List ℕ) → Ordered Index.Refused indexNumber (readRules index) (indexAnswer index)
+read-index-order index = ordered Index.Refused indexNumber (λ r. refl) (Index.Read (indexOf index)) refl (readRules index) _ refl
 
 volume-order : (index : List ℕ) (rules : List (Rule Refusal)) (answer : VolumeAnswer) → answer ≡ verdict Volume.Refused (Volume.Passed (volumeRecord index)) rules
     → Ordered Volume.Refused volumeNumber rules answer
@@ -352,11 +347,10 @@ module _ (index header : List ℕ) (number : ℕ) where
   unfolding firstOf
   record-behind h =
       let own = ownRules (length header) (lowOffset index number) (highOffset index number) in
-      let rest = (ask (ltb number (sequences index)) R.NoSuchSequence ∷ []) ++ own in
-      let o : AllHold own = hold-second (indexRules index) rest (h .1 .1) .1 in
+      let o : AllHold own = hold-second (readRules index) (ask (ltb number (sequences index)) R.NoSuchSequence ∷ own) (h .1) .1 in
       let rules = elementRules (take high header) low in
       let c : checkedBy rules ≡ checkRecord header low high =
-      record-element header low high (leb-true (length header) 2147483647 (h .1 .0)) (low-high (lowOffset index number) (highOffset index number) (o .0) (o .1 .0)) (checkedBy rules)
+      record-element header low high (leb-true (length header) 2147483647 (h .0)) (low-high (lowOffset index number) (highOffset index number) (o .0) (o .1 .0)) (checkedBy rules)
       (high-size (highOffset index number) (length header) (o .1 .1 .0)) refl in
       ap labelled (sym c) ∙ verdict-handed Check.Refused Label.Refused labelled (λ r. refl) Check.Passed rules
 
@@ -365,12 +359,10 @@ module _ (index header : List ℕ) (number : ℕ) where
   unfolding labelOf offsetsLabel
   label-offsets =
       let x = recordLabel (titleLength index) (firstOf header low high) in
-      let sizes : List (Rule Refusal) = ask (bytesFit index) R.TooLarge ∷ ask (bytesFit header) R.TooLarge ∷ [] in
-      let there : List (Rule Refusal) = ask (ltb number (sequences index)) R.NoSuchSequence ∷ [] in
       let own = ownRules (length header) (lowOffset index number) (highOffset index number) in
-      ap (λ (y : LabelAnswer). verdict Label.Refused y sizes)
-      (verdict-handed Index.Refused Label.Refused (numberLabel index header number) (λ r. refl) (Index.Read (indexOf index)) (indexRules index)
-      ∙ sym (verdict-append Label.Refused x (indexRules index) (there ++ own)))
+      ap (λ (y : LabelAnswer). verdict Label.Refused y (ask (bytesFit header) R.TooLarge ∷ []))
+      (verdict-handed Index.Refused Label.Refused (numberLabel index header number) (λ r. refl) (Index.Read (indexOf index)) (readRules index)
+      ∙ sym (verdict-append Label.Refused x (readRules index) (ask (ltb number (sequences index)) R.NoSuchSequence ∷ own)))
 
   -- `find_label`, `label_number` and `label_part`: 22; 1 to 6 for the index; 10; 7; 20, 21
   pub label-order : Ordered Label.Refused labelNumber (labelRules index header number) (labelOf index header number)

@@ -13,7 +13,7 @@ use Rattle.answers.specs.Limits.{bytesFit}
 use Rattle.answers.specs.Numbers.{numberOf}
 use Rattle.answers.specs.declared.Refusal.{Refusal}
 use Rattle.answers.specs.declared.Refusal.the-variants.{TooLarge, NoSuchSequence, NoRoom}
-use Rattle.volume.specs.Index.{sequences, headerTable, indexRules}
+use Rattle.volume.specs.Index.{sequences, headerTable, readRules}
 use Rattle.volume.specs.Tables.{offsetAt}
 use Rattle.headers.specs.Record.{elementRules, recordRules}
 use Rattle.deflines.specs.Fields.{titlesOf, identifiersOf}
@@ -48,10 +48,9 @@ highOffset index number = offsetAt index (headerTable index) (number + 1)
 
 abbrev pub labelOffsetRules : List ℕ → List ℕ → ℕ → List (Rule Refusal)
 labelOffsetRules index header number =
-    (ask (bytesFit index) TooLarge ∷ ask (bytesFit header) TooLarge ∷ [])
-    ++ (indexRules index
-    ++ ((ask (ltb number (sequences index)) NoSuchSequence ∷ [])
-    ++ ownRules (length header) (lowOffset index number) (highOffset index number)))
+    ask (bytesFit header) TooLarge
+    ∷ (readRules index
+    ++ (ask (ltb number (sequences index)) NoSuchSequence ∷ ownRules (length header) (lowOffset index number) (highOffset index number)))
 
 abbrev pub labelRules : List ℕ → List ℕ → ℕ → List (Rule Refusal)
 labelRules index header number =

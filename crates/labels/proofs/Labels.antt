@@ -13,7 +13,6 @@ use lib.Signed.{ltZ, leZ, nonNeg}
 use Rattle.laws.specs.Signed.{toNat}
 use Rattle.laws.proofs.Tests.{never}
 use Rattle.laws.proofs.Choices.{cond-elim}
-use Rattle.laws.proofs.Passing.{passes-with}
 use Rattle.laws.proofs.Signed as signed
 use Rattle.answers.specs.Limits.{checkedBy}
 use Rattle.answers.specs.declared.Refusal.{Refusal}
@@ -29,9 +28,10 @@ use Rattle.deflines.proofs.Within.{first-within}
 use Rattle.volume.specs.declared.Index.{Index}
 use Rattle.volume.specs.declared.IndexAnswer.{IndexAnswer}
 use Rattle.volume.specs.declared.IndexAnswer.the-variants as X
-use Rattle.volume.specs.Index.{titleLength, sequences, headerTable, indexRules, indexOf, indexAnswer}
+use Rattle.volume.specs.Index.{titleLength, sequences, headerTable, indexOf, indexAnswer}
 use Rattle.volume.specs.Tables.{offsetAt}
 use Rattle.volume.proofs.Facts.{index-parts, few-sequences}
+use Rattle.volume.proofs.Reading as Reading
 use Rattle.labels.specs.declared.LabelAnswer.{LabelAnswer}
 use Rattle.labels.specs.declared.LabelAnswer.the-variants.{InHeader, InIndex, Refused}
 use Rattle.labels.specs.Label.{recordLabel, ownRules, offsetsLabel, numberLabel, labelOf, labelPart, labelPlace}
@@ -92,38 +92,32 @@ module _ (header : List ℕ) (title : ℕ) (low high : ℤ) (c : Checked) (e : c
 -- ---- the rules before them
 
 module _ (index header : List ℕ) (number : ℕ) where
-  pub label-index-large : 2147483647 < length index → Refused TooLarge ≡ labelOf index header number
+  pub label-large : 2147483647 < length header → Refused TooLarge ≡ labelOf index header number
   unfolding labelOf
-  label-index-large h = rw (lt-leb _ _ h)
+  label-large k = rw (lt-leb (length header) 2147483647 k)
 
-  module _ (h : length index ≤ 2147483647) where
-    pub label-header-large : 2147483647 < length header → Refused TooLarge ≡ labelOf index header number
+  module _ (k : length header ≤ 2147483647) where
+    read-label : (a : IndexAnswer) → indexAnswer index ≡ a → labelOf index header number ≡ numberLabel index header number a
     unfolding labelOf
-    label-header-large k = rw (le-leb _ _ h, lt-leb _ _ k)
+    read-label a e = rw (le-leb (length header) 2147483647 k) (ap (numberLabel index header number) e)
 
-    module _ (k : length header ≤ 2147483647) where
-      pub label-index-refused : (r : Refusal) → indexAnswer index ≡ X.Refused r → Refused r ≡ labelOf index header number
-      unfolding labelOf
-      label-index-refused r e = rw (le-leb _ _ h, le-leb _ _ k, e)
+    pub label-index-refused : (r : Refusal) → indexAnswer index ≡ X.Refused r → Refused r ≡ labelOf index header number
+    label-index-refused r e = sym (read-label (X.Refused r) e)
 
-      module _ (x : Index) (e : indexAnswer index ≡ X.Read x) where
-        pub label-none : sequences index ≤ number → Refused NoSuchSequence ≡ labelOf index header number
-        unfolding labelOf
-        label-none l = rw (le-leb _ _ h, le-leb _ _ k, e, le-ltb _ _ l)
+    module _ (x : Index) (e : indexAnswer index ≡ X.Read x) where
+      pub label-none : sequences index ≤ number → Refused NoSuchSequence ≡ labelOf index header number
+      label-none l = rw (read-label (X.Read x) e, le-ltb number (sequences index) l)
 
-        pub label-found : (a : LabelAnswer) (table title : ℕ) (low high : ℤ) → number < sequences index → table ≡ headerTable index → title ≡ titleLength index
-            → low ≡ offsetAt index table number → high ≡ offsetAt index table (number + 1) → a ≡ offsetsLabel header title low high
-            → a ≡ labelOf index header number
-        unfolding labelOf
-        label-found a table title low high l f g u v q =
-            rw (le-leb _ _ h, le-leb _ _ k, e, lt-ltb _ _ l) (rw (← f, ← g, ← u, ← v) q)
+      pub label-found : (a : LabelAnswer) (table title : ℕ) (low high : ℤ) → number < sequences index → table ≡ headerTable index → title ≡ titleLength index
+          → low ≡ offsetAt index table number → high ≡ offsetAt index table (number + 1) → a ≡ offsetsLabel header title low high
+          → a ≡ labelOf index header number
+      label-found a table title low high l f g u v q =
+          rw (read-label (X.Read x) e, lt-ltb number (sequences index) l) (rw (← f, ← g, ← u, ← v) q)
 
 -- ---- an index that was read
 
-not-read : (x : Index) (r : Refusal) → X.Refused r ≡ X.Read x → ⊥
-not-read x r e = let z : _≡_ {A = ℕ} 0 1 = cc in omega arith
-
 pub record IndexRead (index : List ℕ) (x : Index) : Type 0 where
+  pub small : length index ≤ 2147483647
   pub number : x .sequences ≡ sequences index
   pub few : sequences index ≤ 134217728
   pub table : x .«header_table» ≡ headerTable index
@@ -134,12 +128,14 @@ pub record IndexRead (index : List ℕ) (x : Index) : Type 0 where
 pub index-read : (index : List ℕ) (x : Index) → indexAnswer index ≡ X.Read x → IndexRead index x
 unfolding indexOf
 index-read index x e =
-    let a = passes-with X.Refused (X.Read (indexOf index)) (X.Read x) (not-read x) (indexRules index) e in
-    let q : indexOf index ≡ x = cc in
-    let parts = index-parts index (a .0) in
+    let a = Reading.index-read index x e in
+    let q : indexOf index ≡ x = sym (a .1) in
+    let rules = a .0 .1 in
+    let parts = index-parts index rules in
     record {
+      small = leb-true (length index) 2147483647 (a .0 .0);
       number = sym (ap (λ (y : Index). y .sequences) q);
-      few = few-sequences index (a .0);
+      few = few-sequences index rules;
       table = sym (ap (λ (y : Index). y .«header_table») q);
       reaches = leb-true (headerTable index) (length index) (parts .counts .1 .1 .1 .1 .1 .0);
       title = sym (ap (λ (y : Index). y .«title_length») q);
@@ -179,9 +175,7 @@ module _ (index header : List ℕ) where
   label-lies : (number : ℕ) → LabelWithin index header (labelOf index header number)
   unfolding labelOf
   label-lies number =
-      let P : LabelAnswer → Type 0 = LabelWithin index header in
-      cond-elim P (leb (length index) 2147483647)
-      (λ _. cond-elim P (leb (length header) 2147483647) (λ _. number-within number (indexAnswer index) refl) (λ _. tt)) (λ _. tt)
+      cond-elim (LabelWithin index header) (leb (length header) 2147483647) (λ _. number-within number (indexAnswer index) refl) (λ _. tt)
 
   pub label-within : (number : ℕ) (a : LabelAnswer) → labelOf index header number ≡ a → LabelWithin index header a
   label-within number a e = subst (LabelWithin index header) e (label-lies number)

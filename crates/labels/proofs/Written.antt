@@ -26,7 +26,7 @@ offsets-are header title low high a b c =
     let n : nonNeg low ≡ true = sym (at-least-zero low) ∙ test-le (pos 0) low a in
     rw (n, test-le low high b, test-le high (pos (length header)) c)
 
-module _ (index header : List ℕ) (number : ℕ) (small : length index ≤ 2147483647) (short : length header ≤ 2147483647) (x : Index)
+module _ (index header : List ℕ) (number : ℕ) (short : length header ≤ 2147483647) (x : Index)
     (fields : indexAnswer index ≡ X.Read x) (below : number < sequences index) where
   abbrev pub low : ℤ
   low = headerOffset index number
@@ -38,6 +38,6 @@ module _ (index header : List ℕ) (number : ℕ) (small : length index ≤ 2147
   pub label-is : pos 0 ≤ℤ low → low ≤ℤ high → high ≤ℤ pos (length header) → (good : GoodRecord header (toNat low) (toNat high))
       → labelOf index header number ≡ recordLabel (titleLength index) (firstWritten good)
   label-is a b c good =
-      sym (label-found index header number small short x fields _ (headerTable index) (titleLength index) low high below refl refl refl refl refl)
+      sym (label-found index header number short x fields _ (headerTable index) (titleLength index) low high below refl refl refl refl refl)
       ∙ offsets-are header (titleLength index) low high a b c
       ∙ ap (recordLabel (titleLength index)) (first-is header (toNat low) (toNat high) good)

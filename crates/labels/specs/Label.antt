@@ -37,7 +37,7 @@ ownRules size low high = ask (nonNeg low) BadOffsets ∷ ask (leZ low high) BadO
 unfoldable pub offsetsLabel : List ℕ → ℕ → ℤ → ℤ → LabelAnswer
 offsetsLabel header title low high = verdict Refused (recordLabel title (firstOf header (toNat low) (toNat high))) (ownRules (length header) low high)
 
--- The label of a sequence of an index that was read: 1 to 6, 10 where there is no sequence of that number, then its own offsets and record.
+-- The label of a sequence of an index that was read: 22 and 1 to 6 of the index, 10 where there is no sequence of that number, then its own offsets and record.
 abbrev pub numberLabel : List ℕ → List ℕ → ℕ → IndexAnswer → LabelAnswer
 numberLabel index header number (X.Read x) =
     verdict Refused
@@ -45,10 +45,9 @@ numberLabel index header number (X.Read x) =
     (ask (ltb number (sequences index)) NoSuchSequence ∷ [])
 numberLabel index header number (X.Refused r) = Refused r
 
--- The label of a sequence by its number: 22 first.
+-- The label of a sequence by its number: 22 for either file first.
 unfoldable pub labelOf : List ℕ → List ℕ → ℕ → LabelAnswer
-labelOf index header number =
-    verdict Refused (numberLabel index header number (indexAnswer index)) (ask (bytesFit index) TooLarge ∷ ask (bytesFit header) TooLarge ∷ [])
+labelOf index header number = verdict Refused (numberLabel index header number (indexAnswer index)) (ask (bytesFit header) TooLarge ∷ [])
 
 -- The two answers: the number, and the part, which on a refusal is the empty start of the index.
 abbrev pub labelNumber : LabelAnswer → ℕ

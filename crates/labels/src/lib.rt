@@ -148,9 +148,6 @@ fn header_offset(index: &[u8], table: usize, k: usize) -> i32
 pub fn find_label(index: &[u8], header: &[u8], number: u64) -> LabelAnswer
     ensures { λ r. ⌜ r ≡ labelOf (now (index .entry)) (now (header .entry)) number ⌝ }
 {
-    if answers::MOST_BYTES < index.len() {
-        return LabelAnswer::Refused(Refusal::TooLarge);
-    }
     if answers::MOST_BYTES < header.len() {
         return LabelAnswer::Refused(Refusal::TooLarge);
     }

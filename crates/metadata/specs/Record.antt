@@ -1,11 +1,13 @@
 -- One metadata record (document 01, "Metadata").
 -- Assumes nothing.
 use mathlib.Core.Bool.{Bool, true, false, not, cond, _&&_}
-use mathlib.Core.List.{List}
+use mathlib.Core.List.{List, [], _∷_}
 use Prim.Native.Nat.{ℕ, zero, suc, _+_, _-_}
 use lib.Dec.{eqb, leb}
 use lib.IntN.{ℤ, pos, negsuc}
 use lib.ListN.{getD}
+use Rattle.answers.specs.Numbers.{numberOf}
+use Rattle.answers.specs.declared.Refusal.the-variants.{BadMetadata}
 use Rattle.metadata.specs.declared.Closing.{Closing}
 use Rattle.metadata.specs.declared.Closing.the-variants.{At, Open}
 use Rattle.metadata.specs.declared.Texts.{Texts}
@@ -73,3 +75,12 @@ accessionLength Bad = 0
 abbrev pub descriptionLength : Texts → ℕ
 descriptionLength (Lengths n a d) = d
 descriptionLength Bad = 0
+
+-- Document 01's number of an answer, and its values: the lengths of name, accession and description.
+abbrev pub textsNumber : Texts → ℕ
+textsNumber (Lengths n a d) = 0
+textsNumber Bad = numberOf BadMetadata
+
+abbrev pub textsValues : Texts → List ℕ
+textsValues (Lengths n a d) = n ∷ a ∷ d ∷ []
+textsValues Bad = []

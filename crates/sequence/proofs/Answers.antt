@@ -10,21 +10,21 @@ use Rattle.laws.specs.Places.{every}
 use Rattle.laws.specs.Rules.{Rule, verdict, AllHold}
 use Rattle.answers.specs.Limits.{checkedBy}
 use Rattle.answers.specs.declared.Refusal.{Refusal}
-use Rattle.answers.specs.declared.Refusal.the-variants.{BadProteinByte, NoRoom, NoSuchSequence}
+use Rattle.answers.specs.declared.Refusal.the-variants.{BadProteinByte, NoRoom, NoSuchSequence, TooLarge}
 use Rattle.answers.specs.declared.Checked.{Checked}
 use Rattle.answers.specs.declared.Checked.the-variants as C
 use Rattle.laws.proofs.Rules.{hold-first, hold-second}
 use Rattle.answers.proofs.Checks.{all-hold, refused-first, passed-first}
 use Rattle.volume.specs.declared.Index.{Index}
 use Rattle.volume.specs.declared.IndexAnswer.the-variants as X
-use Rattle.volume.specs.Index.{volumeType, isProtein, sequences, sequenceTable, ambiguityTable, indexRules, indexOf, indexAnswer}
+use Rattle.volume.specs.Index.{volumeType, isProtein, sequences, sequenceTable, ambiguityTable, readRules, indexOf, indexAnswer}
 use Rattle.volume.specs.Tables.{sequenceLength, sequenceStart, proteinLength, twoBitLength, dnaLength, dnaEnd}
 use Rattle.volume.proofs.Lengths.{protein-length, dna-length}
 use Rattle.volume.proofs.Reading.{index-read, index-first, index-refused}
 use Rattle.sequence.specs.declared.DecodeAnswer.{DecodeAnswer}
 use Rattle.sequence.specs.declared.DecodeAnswer.the-variants.{Decoded, Refused}
 use Rattle.sequence.specs.Corrections.{tableRules}
-use Rattle.sequence.specs.Sequence.{rangeEnd, isProteinByte, proteinEntryRules, proteinByteRules, proteinRules, dnaEntryRules, dnaRules, roomRules, proteinResidues, proteinCodes, dnaResidues, dnaCodes, proteinAnswer, dnaAnswer, ownRules, ownAnswer, decodeSizeRules, decodeRules, decodeAnswer, decodeOutput, residuesOf, writtenBy}
+use Rattle.sequence.specs.Sequence.{rangeEnd, isProteinByte, proteinEntryRules, proteinByteRules, proteinRules, dnaEntryRules, dnaRules, roomRules, proteinResidues, proteinCodes, dnaResidues, dnaCodes, proteinAnswer, dnaAnswer, ownRules, ownAnswer, decodeRules, decodeAnswer, decodeOutput, residuesOf, writtenBy}
 
 -- ---- the room, asked last
 
@@ -152,27 +152,24 @@ residues-dna index sequence i t = rw t
 
 -- ---- the whole
 
-module _ (index sequence : List ℕ) (i room : ℕ) (c : Checked) (e : c ≡ checkedBy (decodeSizeRules index sequence)) where
+module _ (index sequence : List ℕ) (i room : ℕ) where
   abbrev fine : DecodeAnswer
   fine = Decoded (sequenceLength index sequence i)
 
-  pub decode-large : (r : Refusal) → c ≡ C.Refused r → Refused r ≡ decodeAnswer index sequence i room
+  pub decode-large : 2147483647 < length sequence → Refused TooLarge ≡ decodeAnswer index sequence i room
   unfolding decodeAnswer decodeRules
-  decode-large r f = sym (refused-first (decodeSizeRules index sequence) (indexRules index ++ ownRules index sequence i room) c r e f Refused fine)
+  decode-large h = rw (lt-leb (length sequence) 2147483647 h)
 
-  module _ (f : c ≡ C.Passed) where
-    sizes-passed : decodeAnswer index sequence i room ≡ verdict Refused fine (indexRules index ++ ownRules index sequence i room)
+  module _ (h : length sequence ≤ 2147483647) where
+    size-passed : decodeAnswer index sequence i room ≡ verdict Refused fine (readRules index ++ ownRules index sequence i room)
     unfolding decodeAnswer decodeRules
-    sizes-passed = passed-first (decodeSizeRules index sequence) (indexRules index ++ ownRules index sequence i room) c e f Refused fine
+    size-passed = rw (le-leb (length sequence) 2147483647 h)
 
     pub decode-unread : (r : Refusal) → indexAnswer index ≡ X.Refused r → Refused r ≡ decodeAnswer index sequence i room
-    decode-unread r g = sym (sizes-passed ∙ index-refused index Refused fine (ownRules index sequence i room) r g)
+    decode-unread r g = sym (size-passed ∙ index-refused index Refused fine (ownRules index sequence i room) r g)
 
     pub decode-read : (x : Index) → indexAnswer index ≡ X.Read x → ownAnswer index sequence i room ≡ decodeAnswer index sequence i room
-    decode-read x g = sym (sizes-passed ∙ index-first index Refused fine (ownRules index sequence i room) (index-read index x g .0))
-
-    pub sequence-fits : length sequence ≤ 2147483647
-    sequence-fits = leb-true _ _ (all-hold (decodeSizeRules index sequence) c e f .1 .0)
+    decode-read x g = sym (size-passed ∙ index-first index Refused fine (ownRules index sequence i room) (index-read index x g .0))
 
 -- the output, by the answer
 pub output-by : (index sequence : List ℕ) (i : ℕ) (output : List ℕ) (r : DecodeAnswer) → r ≡ decodeAnswer index sequence i (length output)

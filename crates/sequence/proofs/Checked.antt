@@ -5,7 +5,7 @@ use mathlib.Core.List.{List, _++_}
 use mathlib.Core.Logic.{_⊎_, inl, inr, ⊎-elim}
 use Prim.Native.Nat.{ℕ, _+_, _≤_, _<_}
 use native.Mathlib.Omega.{arith}
-use borrow.Author.Tests.{leb-false, le-leb, lt-ltb}
+use borrow.Author.Tests.{leb-true, leb-false, le-leb, lt-ltb}
 use lib.Dec.{leb}
 use lib.IntN.{pos}
 use lib.ListN.{getD}
@@ -16,10 +16,8 @@ use Rattle.laws.proofs.Rules.{verdict-passes, verdict-append, hold-append}
 use Rattle.laws.proofs.Tests.{bool-cases}
 use Rattle.answers.specs.declared.Refusal.{Refusal}
 use Rattle.answers.specs.declared.Refusal.the-variants.{BadProteinByte, BadAmbiguity, NoRoom}
-use Rattle.answers.specs.declared.Checked.the-variants as Check
-use Rattle.answers.proofs.Checks.{holds-passed}
 use Rattle.volume.specs.declared.IndexAnswer.the-variants as Index
-use Rattle.volume.specs.Index.{statedType, isProtein, sequences, indexRules, indexOf}
+use Rattle.volume.specs.Index.{statedType, isProtein, sequences, readRules, indexOf}
 use Rattle.volume.specs.Tables.{sequenceStart, proteinLength, dnaEnd, dnaLength, sequenceLength, proteinOffsetRules, proteinSeparatorRules, dnaOffsetRules}
 use Rattle.volume.specs.Volume.{volumeAnswer, volumeNumber}
 use Rattle.volume.proofs.Exact as Exact
@@ -27,7 +25,7 @@ use Rattle.sequence.specs.declared.DecodeAnswer.{DecodeAnswer}
 use Rattle.sequence.specs.declared.DecodeAnswer.the-variants.{Decoded, Refused}
 use Rattle.sequence.specs.Checked.{OnlyResidues}
 use Rattle.sequence.specs.Corrections.{isTable, entryWidth, entryCount, entryFits, tableRules}
-use Rattle.sequence.specs.Sequence.{rangeEnd, isProteinByte, proteinEntryRules, proteinByteRules, dnaEntryRules, sequenceRules, roomRules, decodeSizeRules, ownAnswer, decodeAnswer, decodeNumber}
+use Rattle.sequence.specs.Sequence.{rangeEnd, isProteinByte, proteinEntryRules, proteinByteRules, dnaEntryRules, sequenceRules, roomRules, ownAnswer, decodeAnswer, decodeNumber}
 use Rattle.sequence.specs.Holds.{RangeHolds}
 use Rattle.sequence.proofs.Answers.{own-protein, own-dna, decode-read}
 use Rattle.sequence.proofs.Exact.{range-test, parts-zero}
@@ -60,9 +58,6 @@ module _ (index sequence header : List ℕ) (passes : volumeNumber (volumeAnswer
   parts : Exact.VolumeParts index sequence header
   parts = Exact.volume-parts index sequence header (Exact.zero-all index sequence header passes)
 
-  sizes-hold : AllHold (decodeSizeRules index sequence)
-  sizes-hold = (parts .sizesHold .0, (parts .sizesHold .1 .0, tt))
-
   protein-holds : isProtein index ≡ true → AllHold (proteinEntryRules index sequence i)
   protein-holds t =
       let p = parts .sequencesHold in
@@ -79,8 +74,8 @@ module _ (index sequence header : List ℕ) (passes : volumeNumber (volumeAnswer
 
   own-decides : ownAnswer index sequence i room ≡ decodeAnswer index sequence i room
   own-decides =
-      decode-read index sequence i room Check.Passed (sym (holds-passed (decodeSizeRules index sequence) sizes-hold)) refl (indexOf index)
-      (verdict-passes Index.Refused (Index.Read (indexOf index)) (indexRules index) (parts .indexHolds))
+      decode-read index sequence i room (leb-true _ _ (parts .sizesHold .1 .0)) (indexOf index)
+      (verdict-passes Index.Refused (Index.Read (indexOf index)) (readRules index) (parts .sizesHold .0, parts .indexHolds))
 
   protein-only : isProtein index ≡ true → OnlyResidues index sequence i room
   protein-only t =
@@ -121,7 +116,7 @@ module _ (index sequence header : List ℕ) (passes : volumeNumber (volumeAnswer
   own-zero : AllHold (sequenceRules index sequence i) → sequenceLength index sequence i ≤ room → decodeNumber (decodeAnswer index sequence i room) ≡ 0
   own-zero h fits =
       parts-zero index sequence i room
-      (record { sizesHold = sizes-hold; indexHolds = parts .indexHolds; below = lt-ltb i (sequences index) below; ownHold = h; fits = le-leb _ room fits })
+      (record { sequenceFits = parts .sizesHold .1 .0; indexFits = parts .sizesHold .0; indexHolds = parts .indexHolds; below = lt-ltb i (sequences index) below; ownHold = h; fits = le-leb _ room fits })
 
   -- With room for L bytes a protein without a byte above 27 decodes, and DNA with a good ambiguity range.
   pub checked-protein-decodes : statedType index ≡ pos 1 → proteinLength index i ≤ room

@@ -18,18 +18,19 @@ use Rattle.laws.proofs.Places.{every-at, every-all}
 use Rattle.laws.proofs.Rules.{verdict-passes, hold-append, hold-first, hold-second}
 use Rattle.laws.proofs.Signed.{le-test, test-le, lt-test, test-lt}
 use Rattle.laws.proofs.Tests.{both-pass, never}
+use Rattle.answers.specs.Limits.{bytesFit}
 use Rattle.answers.specs.Numbers.{numberOf}
 use Rattle.answers.specs.declared.Refusal.{Refusal}
 use Rattle.answers.proofs.Numbers.{zero-passes}
 use Rattle.residues.specs.Tables.{ambiguityCode}
-use Rattle.volume.specs.Index.{statedType, sequences, indexRules}
+use Rattle.volume.specs.Index.{statedType, sequences, indexRules, readRules}
 use Rattle.volume.specs.Tables.{sequenceStart, dnaEnd, proteinLength, dnaLength, sequenceLength}
 use Rattle.volume.proofs.Facts.{index-parts}
 use Rattle.volume.proofs.Exact.{protein-type, dna-type, fields-of, fields-test}
 use Rattle.sequence.specs.declared.DecodeAnswer.the-variants.{Decoded, Refused}
 use Rattle.sequence.specs.Bases.{basesOf, baseAt}
 use Rattle.sequence.specs.Corrections.{entryWidth, entryCount, correctionAt, correctionEnd, endBefore, entryFits, tableRules, covers, correctedAt}
-use Rattle.sequence.specs.Sequence.{rangeEnd, isProteinByte, proteinRules, dnaRules, sequenceRules, roomRules, ownRules, decodeSizeRules, decodeRules, decodeAnswer, decodeNumber}
+use Rattle.sequence.specs.Sequence.{rangeEnd, isProteinByte, proteinRules, dnaRules, sequenceRules, roomRules, ownRules, decodeRules, decodeAnswer, decodeNumber}
 use Rattle.sequence.specs.Holds.{HasEntries, RangeHolds, ProteinSequenceHolds, DnaSequenceHolds, SequenceHolds}
 use Rattle.sequence.proofs.Ranges.{table-of, table-test, count-of, width-of, fits-both, starts-after, ends-within}
 use Rattle.sequence.proofs.Corrected.{covered-at, not-covered-at}
@@ -149,7 +150,8 @@ module _ (index sequence : List ℕ) (i room : ℕ) where
 
   -- the parts of the list, from the rules of the whole
   pub record DecodeParts : Type 0 where
-    pub sizesHold : AllHold (decodeSizeRules index sequence)
+    pub sequenceFits : bytesFit sequence ≡ true
+    pub indexFits : bytesFit index ≡ true
     pub indexHolds : AllHold (indexRules index)
     pub below : ltb i (sequences index) ≡ true
     pub ownHold : AllHold (sequenceRules index sequence i)
@@ -159,11 +161,12 @@ module _ (index sequence : List ℕ) (i room : ℕ) where
   unfolding decodeRules
   decode-parts h =
       let own = ownRules index sequence i room in
-      let a = hold-second (decodeSizeRules index sequence) (indexRules index ++ own) h in
-      let b = hold-second (indexRules index) own a in
+      let a = hold-first (readRules index) own (h .1) in
+      let b = hold-second (readRules index) own (h .1) in
       record {
-        sizesHold = hold-first (decodeSizeRules index sequence) (indexRules index ++ own) h;
-        indexHolds = hold-first (indexRules index) own a;
+        sequenceFits = h .0;
+        indexFits = a .0;
+        indexHolds = a .1;
         below = b .0;
         ownHold = hold-first (sequenceRules index sequence i) (roomRules (sequenceLength index sequence i) room) (b .1);
         fits = hold-second (sequenceRules index sequence i) (roomRules (sequenceLength index sequence i) room) (b .1) .0;
@@ -172,8 +175,7 @@ module _ (index sequence : List ℕ) (i room : ℕ) where
   parts-decode : DecodeParts → AllHold (decodeRules index sequence i room)
   unfolding decodeRules
   parts-decode p =
-      hold-append (decodeSizeRules index sequence) (indexRules index ++ ownRules index sequence i room) (p .sizesHold)
-      (hold-append (indexRules index) (ownRules index sequence i room) (p .indexHolds)
+      (p .sequenceFits, hold-append (readRules index) (ownRules index sequence i room) (p .indexFits, p .indexHolds)
       (p .below, hold-append (sequenceRules index sequence i) (roomRules (sequenceLength index sequence i) room) (p .ownHold) (p .fits, tt)))
 
   -- the rules that go by the type
@@ -186,8 +188,8 @@ module _ (index sequence : List ℕ) (i room : ℕ) where
   holds-of : DecodeParts → SequenceHolds index sequence i room
   holds-of p =
       record {
-        indexSize = leb-true _ _ (p .sizesHold .0);
-        sequenceSize = leb-true _ _ (p .sizesHold .1 .0);
+        indexSize = leb-true _ _ (p .indexFits);
+        sequenceSize = leb-true _ _ (p .sequenceFits);
         fields = fields-of index (index-parts index (p .indexHolds));
         number = ltb-true _ _ (p .below);
         protein = λ e. let t = protein-type index e in protein-of (subst ownBy t (p .ownHold)) (leb-true _ _ (subst fitsBy t (p .fits)));
@@ -200,7 +202,8 @@ module _ (index sequence : List ℕ) (i room : ℕ) where
       parts : AllHold (sequenceRules index sequence i) → leb (sequenceLength index sequence i) room ≡ true → DecodeParts
       parts o f =
           record {
-            sizesHold = (le-leb _ _ (h .indexSize), (le-leb _ _ (h .sequenceSize), tt));
+            sequenceFits = le-leb _ _ (h .sequenceSize);
+            indexFits = le-leb _ _ (h .indexSize);
             indexHolds = fields-test index (h .fields);
             below = lt-ltb _ _ (h .number);
             ownHold = o;

@@ -16,7 +16,7 @@ use Rattle.answers.specs.Numbers.{numberOf}
 use Rattle.answers.specs.declared.Refusal.{Refusal}
 use Rattle.answers.specs.declared.Refusal.the-variants.{TooLarge, NoSuchSequence, BadOffsets, BadSeparator, BadProteinByte, NoRoom}
 use Rattle.residues.specs.Tables.{proteinCode}
-use Rattle.volume.specs.Index.{isProtein, sequences, indexRules}
+use Rattle.volume.specs.Index.{isProtein, sequences, readRules}
 use Rattle.volume.specs.Tables.{sequenceOffset, ambiguityOffset, sequenceStart, proteinEnd, dnaEnd, proteinLength, dnaLength, sequenceLength}
 use Rattle.sequence.specs.declared.DecodeAnswer.{DecodeAnswer}
 use Rattle.sequence.specs.declared.DecodeAnswer.the-variants.{Decoded, Refused}
@@ -24,10 +24,6 @@ use Rattle.sequence.specs.Bases.{twoBitResidues}
 use Rattle.sequence.specs.Corrections.{entryWidth, entryCount, tableRules, corrected}
 
 -- ---- rules
-
--- No file is over 2,147,483,647 bytes (22).
-abbrev pub decodeSizeRules : List ℕ → List ℕ → List (Rule Refusal)
-decodeSizeRules index sequence = ask (bytesFit index) TooLarge ∷ ask (bytesFit sequence) TooLarge ∷ []
 
 -- There is a sequence of that number (10).
 abbrev pub numberRules : List ℕ → ℕ → List (Rule Refusal)
@@ -85,9 +81,9 @@ roomRules l room = ask (leb l room) NoRoom ∷ []
 abbrev pub ownRules : List ℕ → List ℕ → ℕ → ℕ → List (Rule Refusal)
 ownRules index sequence i room = numberRules index i ++ (sequenceRules index sequence i ++ roomRules (sequenceLength index sequence i) room)
 
--- All rules of decoding sequence i into an output of so much room.
+-- All rules of decoding sequence i into an output of so much room: 22 for either file; 1 to 6 for the index; the rest.
 unfoldable pub decodeRules : List ℕ → List ℕ → ℕ → ℕ → List (Rule Refusal)
-decodeRules index sequence i room = decodeSizeRules index sequence ++ (indexRules index ++ ownRules index sequence i room)
+decodeRules index sequence i room = ask (bytesFit sequence) TooLarge ∷ (readRules index ++ ownRules index sequence i room)
 
 -- ---- residues
 

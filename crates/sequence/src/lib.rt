@@ -3,7 +3,6 @@ mod bases;
 mod corrections;
 mod entries;
 
-use answers::Checked;
 use answers::MOST_BYTES;
 use answers::Refusal;
 use entries::decode_dna;
@@ -13,9 +12,8 @@ use volume::IndexAnswer;
 ghost use mathlib.Core.Path.{_≡_};
 ghost use Prim.Native.Nat.{_≤_};
 ghost use lib.ListN.{length};
-ghost use Rattle.answers.specs.Limits.{checkedBy};
 ghost use Rattle.volume.specs.Index.{sequences, indexOf};
-ghost use Rattle.sequence.specs.Sequence.{decodeSizeRules, ownAnswer, residuesOf, writtenBy, decodeAnswer, decodeOutput};
+ghost use Rattle.sequence.specs.Sequence.{ownAnswer, residuesOf, writtenBy, decodeAnswer, decodeOutput};
 
 // How many residues were written, or why none were.
 pub enum DecodeAnswer {
@@ -28,19 +26,6 @@ pub struct Correction {
     pub value: usize,
     pub start: usize,
     pub length: usize,
-}
-
-// The sizes of the files, 22.
-fn check_sizes(index: &[u8], sequence: &[u8]) -> Checked
-    ensures { λ r. ⌜ r ≡ checkedBy (decodeSizeRules (now (index .entry)) (now (sequence .entry))) ⌝ }
-{
-    if MOST_BYTES < index.len() {
-        return Checked::Refused(Refusal::TooLarge);
-    }
-    if MOST_BYTES < sequence.len() {
-        return Checked::Refused(Refusal::TooLarge);
-    }
-    Checked::Passed
 }
 
 // Decodes a sequence of an index that was read.
@@ -64,8 +49,8 @@ pub fn decode(index: &[u8], sequence: &[u8], number: u64, out: &mut [u8]) -> Dec
     ensures { λ r. ⌜ r ≡ decodeAnswer (now (index .entry)) (now (sequence .entry)) number (length (now (out .entry))) ⌝ }
     ensures { λ r. ⌜ now (out .exit) ≡ decodeOutput (now (index .entry)) (now (sequence .entry)) number (now (out .entry)) ⌝ }
 {
-    if let Checked::Refused(r) = check_sizes(index, sequence) {
-        return DecodeAnswer::Refused(r);
+    if MOST_BYTES < sequence.len() {
+        return DecodeAnswer::Refused(Refusal::TooLarge);
     }
     match volume::read_index(index) {
         IndexAnswer::Refused(r) => DecodeAnswer::Refused(r),

@@ -15,7 +15,7 @@ use Rattle.fields.specs.Number.{big, signedAt, unsignedAt}
 use Rattle.answers.specs.declared.Refusal.{Refusal}
 use Rattle.volume.specs.declared.Index.{Index}
 use Rattle.volume.specs.declared.IndexAnswer.the-variants.{Read, Refused}
-use Rattle.volume.specs.Index.{titleLength, titleEnd, timestampLength, timestampEnd, sequences, sequenceTable, ambiguityTable, headerTable, indexRules, indexOf, indexAnswer}
+use Rattle.volume.specs.Index.{titleLength, titleEnd, timestampLength, timestampEnd, sequences, sequenceTable, ambiguityTable, headerTable, indexRules, indexOf, readRules, indexAnswer}
 
 not-refused : (x : Index) (r : Refusal) → Refused r ≡ Read x → ⊥
 not-refused x r e = let z : _≡_ {A = ℕ} 0 1 = cc in omega arith
@@ -25,22 +25,22 @@ same-refusal r s e = cc
 
 module _ (index : List ℕ) where
   -- the index was read: its rules hold, and its numbers are the definition's
-  pub index-read : (x : Index) → indexAnswer index ≡ Read x → AllHold (indexRules index) × (x ≡ indexOf index)
+  pub index-read : (x : Index) → indexAnswer index ≡ Read x → AllHold (readRules index) × (x ≡ indexOf index)
   index-read x e =
-      let p = passes-with Refused (Read (indexOf index)) (Read x) (not-refused x) (indexRules index) e in
+      let p = passes-with Refused (Read (indexOf index)) (Read x) (not-refused x) (readRules index) e in
       let q = p .1 in
       (p .0, cc)
 
   module _ {B : Type 0} (told : Refusal → B) (fine : B) (more : List (Rule Refusal)) where
     -- what is asked after the index decides
-    pub index-first : AllHold (indexRules index) → verdict told fine (indexRules index ++ more) ≡ verdict told fine more
-    index-first h = verdict-append told fine (indexRules index) more ∙ verdict-passes told (verdict told fine more) (indexRules index) h
+    pub index-first : AllHold (readRules index) → verdict told fine (readRules index ++ more) ≡ verdict told fine more
+    index-first h = verdict-append told fine (readRules index) more ∙ verdict-passes told (verdict told fine more) (readRules index) h
 
     -- the index was refused: that decides
-    pub index-refused : (r : Refusal) → indexAnswer index ≡ Refused r → verdict told fine (indexRules index ++ more) ≡ told r
+    pub index-refused : (r : Refusal) → indexAnswer index ≡ Refused r → verdict told fine (readRules index ++ more) ≡ told r
     index-refused r e =
-        verdict-append told fine (indexRules index) more
-        ∙ refused-any Refused (Read (indexOf index)) (indexRules index) r (same-refusal r) (λ n. not-refused (indexOf index) r (sym n)) e told
+        verdict-append told fine (readRules index) more
+        ∙ refused-any Refused (Read (indexOf index)) (readRules index) r (same-refusal r) (λ n. not-refused (indexOf index) r (sym n)) e told
         (verdict told fine more)
 
 -- ---- places

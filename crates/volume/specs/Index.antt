@@ -11,8 +11,10 @@ use lib.Signed.{nonNeg}
 use Rattle.laws.specs.Rules.{Rule, ask, verdict}
 use Rattle.laws.specs.Signed.{toNat, eqZ}
 use Rattle.fields.specs.Number.{big, little, signedAt}
+use Rattle.answers.specs.Limits.{bytesFit}
+use Rattle.answers.specs.Numbers.{numberOf}
 use Rattle.answers.specs.declared.Refusal.{Refusal}
-use Rattle.answers.specs.declared.Refusal.the-variants.{TooShort, WrongVersion, WrongKind, OutOfRange, Misaligned, Leftover}
+use Rattle.answers.specs.declared.Refusal.the-variants.{TooShort, WrongVersion, WrongKind, OutOfRange, Misaligned, Leftover, TooLarge}
 use Rattle.volume.specs.declared.Index.{Index}
 use Rattle.volume.specs.declared.IndexAnswer.{IndexAnswer}
 use Rattle.volume.specs.declared.IndexAnswer.the-variants.{Read, Refused}
@@ -170,6 +172,32 @@ indexOf index =
       «ambiguity_table» = ambiguityTable index;
     }
 
--- An index read: its numbers where 1 to 6 hold. The size of the file (22) is for the calls to test.
+-- The rules of reading an index: it is not over 2,147,483,647 bytes (22); then 1 to 6.
+abbrev pub readRules : List ℕ → List (Rule Refusal)
+readRules index = ask (bytesFit index) TooLarge ∷ indexRules index
+
+-- An index read: its numbers where the rules hold.
 abbrev pub indexAnswer : List ℕ → IndexAnswer
-indexAnswer index = verdict Refused (Read (indexOf index)) (indexRules index)
+indexAnswer index = verdict Refused (Read (indexOf index)) (readRules index)
+
+-- Document 01's number of an answer, and its values: the numbers of the index, and where its tables start.
+abbrev pub indexNumber : IndexAnswer → ℕ
+indexNumber (Read x) = 0
+indexNumber (Refused r) = numberOf r
+
+abbrev pub indexNumbers : Index → List ℕ
+indexNumbers x =
+    x .kind
+    ∷ x .«title_length»
+    ∷ x .«timestamp_length»
+    ∷ x .sequences
+    ∷ x .residues
+    ∷ x .longest
+    ∷ x .«header_table»
+    ∷ x .«sequence_table»
+    ∷ x .«ambiguity_table»
+    ∷ []
+
+abbrev pub indexValues : IndexAnswer → List ℕ
+indexValues (Read x) = indexNumbers x
+indexValues (Refused r) = []

@@ -66,10 +66,13 @@ pub enum VolumeAnswer {
     Refused(Refusal),
 }
 
-// Reads an index alone, 1 to 6. The size of the file, 22, is for the calling function to test.
+// Reads an index alone: 22, then 1 to 6.
 pub fn read_index(index: &[u8]) -> IndexAnswer
     ensures { λ r. ⌜ r ≡ indexAnswer (now (index .entry)) ⌝ }
 {
+    if MOST_BYTES < index.len() {
+        return IndexAnswer::Refused(Refusal::TooLarge);
+    }
     if let Checked::Refused(r) = check_index(index) {
         return IndexAnswer::Refused(r);
     }

@@ -1,56 +1,63 @@
--- `sequence::decode`: sizes, then the index, then the sequence's own rules. Assumes nothing.
+-- `sequence::decode`: the sequence file's size, then the index, then the sequence's own rules. Assumes nothing.
 use denote.Ref.{now}
 use lib.ListN.{length}
 use mathlib.Core.Path.{sym, _∙_}
 use Rattle.volume.proofs.Reading.{index-read}
-use Rattle.sequence.proofs.Answers.{decode-large, decode-unread, decode-read, sequence-fits, output-by}
+use Rattle.sequence.proofs.Answers.{decode-large, decode-unread, decode-read, output-by}
 use borrow.Author.Needs.{needs}
 use Rattle.sequence.proofs.decode.Statement.{statement}
 use Rattle.sequence.proofs.decode.Tie as tie
 
-check-sizes-requires : tie.Need-check-sizes-requires
-check-sizes-requires c κs = search needs
-
-enum-known-r : tie.Need-enum-known-r
-enum-known-r c = search needs
-
 returns : tie.Need-returns
-returns c = let index = now ((c .before .before .before .before .before .before .before .args) .index) in let s = now ((c .before .before .before .before .before .before .before .args) .sequence) in let i = (c .before .before .before .before .before .before .before .args) .number in let o = now ((c .before .before .before .before .before .before .before .args) .out) in let a = decode-large index s i (length o) _ ((c .before .before .before .check-sizes) .ensures) _ ((c .before .r) .given .1) in (a, output-by index s i o _ a)
-
-enum-told : tie.Need-enum-told
-enum-told c = search needs
+returns c =
+    let index = now ((c .before .before .before .before .args) .index) in
+    let s = now ((c .before .before .before .before .args) .sequence) in
+    let o = now ((c .before .before .before .before .args) .out) in
+    let a = decode-large index s ((c .before .before .before .before .args) .number) (length o) ((c .if1) .taken) in
+    (a, output-by index s ((c .before .before .before .before .args) .number) o _ a)
 
 read-index-requires : tie.Need-read-index-requires
 read-index-requires c κs = search needs
 
-enum-known-r-2 : tie.Need-enum-known-r-2
-enum-known-r-2 c = search needs
+enum-known-r : tie.Need-enum-known-r
+enum-known-r c = search needs
 
 enum-known-x : tie.Need-enum-known-x
 enum-known-x c = search needs
 
 decode-own-requires : tie.Need-decode-own-requires
-decode-own-requires c κs = let index = now ((c .before .before .before .before .before .before .before .before .before .before .before .args) .index) in let s = now ((c .before .before .before .before .before .before .before .before .before .before .before .args) .sequence) in let i = (c .before .before .before .before .before .before .before .before .before .before .before .args) .number in let o = now ((c .before .before .before .before .before .before .before .before .before .before .before .args) .out) in let g = sym ((c .before .before .before .before .read-index) .ensures) ∙ (c .before .before .x) .given .1 in (index-read index _ g .1, sequence-fits index s i (length o) _ ((c .before .before .before .before .before .before .before .check-sizes) .ensures) ((c .before .before .before .before .before .enum-told) .given .1))
+decode-own-requires c κs =
+    let g = sym ((c .before .before .before .before .read-index) .ensures) ∙ (c .before .before .x) .given .1 in
+    (index-read (now ((c .before .before .before .before .before .before .before .before .before .args) .index)) _ g .1, (c .before .before .before .before .before .if1) .left)
 
 returns-2 : tie.Need-returns-2
-returns-2 c = let index = now ((c .before .before .before .before .before .before .before .before .before .before .args) .index) in let s = now ((c .before .before .before .before .before .before .before .before .before .before .args) .sequence) in let i = (c .before .before .before .before .before .before .before .before .before .before .args) .number in let o = now ((c .before .before .before .before .before .before .before .before .before .before .args) .out) in let g = sym ((c .before .before .before .read-index) .ensures) ∙ (c .before .r2) .given .1 in let a = decode-unread index s i (length o) _ ((c .before .before .before .before .before .before .check-sizes) .ensures) ((c .before .before .before .before .enum-told) .given .1) _ g in (a, output-by index s i o _ a)
+returns-2 c =
+    let index = now ((c .before .before .before .before .before .before .before .before .args) .index) in
+    let s = now ((c .before .before .before .before .before .before .before .before .args) .sequence) in
+    let o = now ((c .before .before .before .before .before .before .before .before .args) .out) in
+    let g = sym ((c .before .before .before .read-index) .ensures) ∙ (c .before .r) .given .1 in
+    let a = decode-unread index s ((c .before .before .before .before .before .before .before .before .args) .number) (length o) ((c .before .before .before .before .if1) .left) _ g in
+    (a, output-by index s ((c .before .before .before .before .before .before .before .before .args) .number) o _ a)
 
 same-length : tie.Need-same-length
 same-length c = search needs
 
 returns-3 : tie.Need-returns-3
-returns-3 c = let index = now ((c .before .before .before .before .before .before .before .before .before .before .before .before .before .before .args) .index) in let s = now ((c .before .before .before .before .before .before .before .before .before .before .before .before .before .before .args) .sequence) in let i = (c .before .before .before .before .before .before .before .before .before .before .before .before .before .before .args) .number in let o = now ((c .before .before .before .before .before .before .before .before .before .before .before .before .before .before .args) .out) in let g = sym ((c .before .before .before .before .before .before .before .read-index) .ensures) ∙ (c .before .before .before .before .before .x) .given .1 in let a = (c .before .before .decode-own) .ensures .0 ∙ decode-read index s i (length o) _ ((c .before .before .before .before .before .before .before .before .before .before .check-sizes) .ensures) ((c .before .before .before .before .before .before .before .before .enum-told) .given .1) _ g in (a, (c .before .before .decode-own) .ensures .1 ∙ output-by index s i o _ a)
+returns-3 c =
+    let index = now ((c .before .before .before .before .before .before .before .before .before .before .before .before .args) .index) in
+    let s = now ((c .before .before .before .before .before .before .before .before .before .before .before .before .args) .sequence) in
+    let o = now ((c .before .before .before .before .before .before .before .before .before .before .before .before .args) .out) in
+    let g = sym ((c .before .before .before .before .before .before .before .read-index) .ensures) ∙ (c .before .before .before .before .before .x) .given .1 in
+    let a = (c .before .before .decode-own) .ensures .0 ∙ decode-read index s ((c .before .before .before .before .before .before .before .before .before .before .before .before .args) .number) (length o) ((c .before .before .before .before .before .before .before .before .if1) .left) _ g in
+    (a, (c .before .before .decode-own) .ensures .1 ∙ output-by index s ((c .before .before .before .before .before .before .before .before .before .before .before .before .args) .number) o _ a)
 
 pub decode-spec : {M : Type 1} → statement M
 decode-spec =
     tie.close
     (tie.spec
-    check-sizes-requires
-    enum-known-r
     returns
-    enum-told
     read-index-requires
-    enum-known-r-2
+    enum-known-r
     enum-known-x
     decode-own-requires
     returns-2

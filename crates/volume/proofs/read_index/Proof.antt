@@ -1,6 +1,7 @@
--- `volume::read_index`: the index passes or is refused by the rules, and each number is the definition's. Assumes nothing.
+-- `volume::read_index`: the index passes or is refused by the rules, its size first, and each number is the definition's. Assumes nothing.
 use mathlib.Core.Path.{sym}
 use denote.Ref.{now}
+use borrow.Author.Tests.{lt-leb, le-leb}
 use Rattle.answers.proofs.Alone.{refused-alone, passed-alone}
 use Rattle.volume.specs.declared.IndexAnswer.the-variants.{Read, Refused}
 use Rattle.volume.specs.Index.{indexOf, indexRules}
@@ -8,16 +9,20 @@ use borrow.Author.Needs.{needs}
 use Rattle.volume.proofs.read_index.Statement.{statement}
 use Rattle.volume.proofs.read_index.Tie as tie
 
+returns : tie.Need-returns
+returns c = rw (lt-leb _ _ ((c .if1) .taken))
+
 check-index-requires : tie.Need-check-index-requires
 check-index-requires c κs = search needs
 
 enum-known-r : tie.Need-enum-known-r
 enum-known-r c = search needs
 
-returns : tie.Need-returns
-returns c =
-    let index = now ((c .before .before .before .before .before .args) .index) in
-    sym (refused-alone (indexRules index) _ ((c .before .before .before .check-index) .ensures) Refused (Read (indexOf index)) _ ((c .before .r) .given .1))
+returns-2 : tie.Need-returns-2
+returns-2 c =
+    let index = now ((c .before .before .before .before .before .before .args) .index) in
+    rw (le-leb _ _ ((c .before .before .before .before .if1) .left))
+    (sym (refused-alone (indexRules index) _ ((c .before .before .before .check-index) .ensures) Refused (Read (indexOf index)) _ ((c .before .r) .given .1)))
 
 enum-told : tie.Need-enum-told
 enum-told c = search needs
@@ -43,8 +48,8 @@ longest-length-requires c κs = search needs
 timestamp-end-requires : tie.Need-timestamp-end-requires
 timestamp-end-requires c κs = search needs
 
-add-t11 : tie.Need-add-t11
-add-t11 c = search needs
+add-t13 : tie.Need-add-t13
+add-t13 c = search needs
 
 sequence-table-requires : tie.Need-sequence-table-requires
 sequence-table-requires c κs = search needs
@@ -52,20 +57,21 @@ sequence-table-requires c κs = search needs
 ambiguity-table-requires : tie.Need-ambiguity-table-requires
 ambiguity-table-requires c κs = search needs
 
-returns-2 : tie.Need-returns-2
+returns-3 : tie.Need-returns-3
 unfolding indexOf
-returns-2 c =
-    let index = now ((c .before .before .before .before .before .before .before .before .before .before .before .before .before .args) .index) in
-    rw ((c .before .before .before .before .before .before .before .before .volume-type) .ensures, (c .before .before .before .before .before .before .before .title-length) .ensures .0, (c .before .before .before .before .before .before .timestamp-length) .ensures .0, (c .before .before .before .before .before .sequence-count) .ensures .0, (c .before .before .before .before .residue-count) .ensures, (c .before .before .before .longest-length) .ensures, (c .before .before .timestamp-end) .ensures .0, (c .before .sequence-table) .ensures .0, (c .ambiguity-table) .ensures .0)
+returns-3 c =
+    let index = now ((c .before .before .before .before .before .before .before .before .before .before .before .before .before .before .args) .index) in
+    rw (le-leb _ _ ((c .before .before .before .before .before .before .before .before .before .before .before .before .if1) .left), (c .before .before .before .before .before .before .before .before .volume-type) .ensures, (c .before .before .before .before .before .before .before .title-length) .ensures .0, (c .before .before .before .before .before .before .timestamp-length) .ensures .0, (c .before .before .before .before .before .sequence-count) .ensures .0, (c .before .before .before .before .residue-count) .ensures, (c .before .before .before .longest-length) .ensures, (c .before .before .timestamp-end) .ensures .0, (c .before .sequence-table) .ensures .0, (c .ambiguity-table) .ensures .0)
     (sym (passed-alone (indexRules index) _ ((c .before .before .before .before .before .before .before .before .before .before .before .check-index) .ensures) Refused (Read (indexOf index)) ((c .before .before .before .before .before .before .before .before .before .enum-told) .given .1)))
 
 pub read-index-spec : {M : Type 1} → statement M
 read-index-spec =
     tie.close
     (tie.spec
+    returns
     check-index-requires
     enum-known-r
-    returns
+    returns-2
     enum-told
     volume-type-requires
     title-length-requires
@@ -74,7 +80,7 @@ read-index-spec =
     residue-count-requires
     longest-length-requires
     timestamp-end-requires
-    add-t11
+    add-t13
     sequence-table-requires
     ambiguity-table-requires
-    returns-2)
+    returns-3)
