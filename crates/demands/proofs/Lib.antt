@@ -1,5 +1,6 @@
 pub mod Demand1
 pub mod Order
+pub mod Printed
 pub mod LargeFirst
 pub mod Table
 pub mod Demand2Packets

@@ -29,6 +29,28 @@ pub record Ordered {A : Type 0} (refused : Refusal → A) (number : A → ℕ) (
   -- its number is 0 exactly where every rule holds
   pub passes : (number answer ≡ 0) ↔ AllHold rules
 
+-- ---- the numbers of a list, in the order in which document 01 prints them
+
+abbrev pub numbersOf : List (Rule Refusal) → List ℕ
+numbersOf [] = []
+numbersOf (rule ∷ rules) = numberOf (rule .refusal) ∷ numbersOf rules
+
+-- The index, field by field, too short (1), then its value: version 2; type 3; title length 4; the title itself.
+abbrev pub titleNumbers : List ℕ
+titleNumbers = 1 ∷ 2 ∷ 1 ∷ 3 ∷ 1 ∷ 4 ∷ 1 ∷ []
+
+-- Timestamp length 4; the timestamp itself, and its end 5.
+abbrev pub timestampNumbers : List ℕ
+timestampNumbers = 1 ∷ 4 ∷ 1 ∷ 5 ∷ []
+
+-- N, not negative and not too large, 4; count 4; longest 4.
+abbrev pub countNumbers : List ℕ
+countNumbers = 1 ∷ 4 ∷ 4 ∷ 1 ∷ 4 ∷ 1 ∷ 4 ∷ []
+
+-- The tables, and nothing behind them 6.
+abbrev pub indexNumbers : List ℕ
+indexNumbers = titleNumbers ++ (timestampNumbers ++ (countNumbers ++ (1 ∷ 6 ∷ [])))
+
 -- ---- the lists of the calls whose definition is no list: each asks rules, and then those of another check
 
 -- The record's own rules, then 10 where there are no more than so many titles, or identifiers.
