@@ -43,9 +43,13 @@ proteinEntryRules index sequence i =
 abbrev pub byteFrom : List ℕ → ℕ → ℕ → ℕ
 byteFrom sequence start k = getD sequence (start + k) 0
 
--- No byte of l protein bytes from a start on is above 27 (11).
+-- The largest protein byte.
+abbrev pub mostProteinByte : ℕ
+mostProteinByte = 27
+
+-- No byte of l protein bytes from a start on is above it (11).
 abbrev pub isProteinByte : List ℕ → ℕ → ℕ → Bool
-isProteinByte sequence start k = leb (byteFrom sequence start k) 27
+isProteinByte sequence start k = leb (byteFrom sequence start k) mostProteinByte
 
 abbrev pub proteinByteRules : List ℕ → ℕ → ℕ → List (Rule Refusal)
 proteinByteRules sequence start l = ask (every (isProteinByte sequence start) l) BadProteinByte ∷ []
