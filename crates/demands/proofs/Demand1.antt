@@ -1,13 +1,13 @@
 -- Demand 1: the number of every public call is 0 or one of document 01's table, a refusal returns its number only, and a refusal leaves every lent
 -- range as it was. An answer is a success, whose number is 0, or a refusal with its cause: so one law of causes serves all calls. Public functions
--- without an answer, as `sequence_length` and `is_run`, refuse nothing.
+-- without an answer, as `sequence_length` and `write_listing`, refuse nothing.
 -- Assumes nothing.
 use mathlib.Core.Path.{_≡_, refl}
-use mathlib.Core.Bool.{Bool, true, false, cond}
+use mathlib.Core.Bool.{true}
 use mathlib.Core.Logic.{inl, inr}
 use mathlib.Core.List.{List, []}
 use Prim.Native.Nat.{ℕ}
-use lib.Dec.{leb, ltb}
+use lib.Dec.{ltb}
 use lib.ListN.{length, getD}
 use borrow.Author.Tests.{ltb-true}
 use Rattle.laws.specs.Writing.{writtenAt}
@@ -36,9 +36,7 @@ use Rattle.volume.specs.declared.VolumeAnswer.the-variants as Volume
 use Rattle.sequence.specs.Sequence.{residuesOf, decodeAnswer, writtenBy, decodeOutput, decodeNumber, decodeValues}
 use Rattle.sequence.specs.declared.DecodeAnswer.{DecodeAnswer}
 use Rattle.sequence.specs.declared.DecodeAnswer.the-variants as Decode
-use Rattle.listing.specs.Listing.{listingRoom, listingText, listingAnswer, listingOutput, listingNumber, listingValues}
-use Rattle.listing.specs.declared.ListingAnswer.{ListingAnswer}
-use Rattle.listing.specs.declared.ListingAnswer.the-variants as Listing
+use Rattle.listing.specs.Listing.{refusedText, listedAnswer, answerText, listingText}
 use Rattle.metadata.specs.Record.{textsIn, textsNumber, textsValues}
 use Rattle.metadata.specs.declared.Texts.{Texts}
 use Rattle.metadata.specs.declared.Texts.the-variants as Metadata
@@ -141,10 +139,6 @@ decode-answered : (x : DecodeAnswer) → Answered (decodeNumber x) (decodeValues
 decode-answered (Decode.Decoded l) = fine (decodeValues (Decode.Decoded l))
 decode-answered (Decode.Refused r) = refused r
 
-listing-answered : (x : ListingAnswer) → Answered (listingNumber x) (listingValues x)
-listing-answered (Listing.Written n) = fine (listingValues (Listing.Written n))
-listing-answered (Listing.Refused r) = refused r
-
 texts-answered : (x : Texts) → Answered (textsNumber x) (textsValues x)
 texts-answered (Metadata.Lengths n a d) = fine (textsValues (Metadata.Lengths n a d))
 texts-answered Metadata.Bad = refused R.BadMetadata
@@ -200,10 +194,6 @@ unpacked-kept (Unpack.Refused r) codes out refuses = refl
 decoded-kept : (x : DecodeAnswer) (residues out : List ℕ) → Kept (decodeNumber x) out (writtenBy x residues out)
 decoded-kept (Decode.Decoded l) residues out refuses = absurd (refuses refl)
 decoded-kept (Decode.Refused r) residues out refuses = refl
-
-listed-kept : (b : Bool) (n : ℕ) (r : Refusal) (text out : List ℕ) → Kept (listingNumber (cond b (Listing.Written n) (Listing.Refused r))) out (cond b (writtenAt 0 text out) out)
-listed-kept true n r text out refuses = absurd (refuses refl)
-listed-kept false n r text out refuses = refl
 
 -- a results range: a refusal has no values to put there
 results-kept : (number : ℕ) (values results : List ℕ) → Answered number values → Kept number results (resultsPut values results)
@@ -325,13 +315,16 @@ decode-call index sequence number out =
     let answer = decodeAnswer index sequence number (length out) in
     (decode-answered answer, decoded-kept answer (residuesOf index sequence number) out)
 
--- `write_listing` and its output
-pub write-listing-call : (index sequence header out : List ℕ) →
-    let answer = listingAnswer index sequence header (length out) in
-    Answered (listingNumber answer) (listingValues answer) × Kept (listingNumber answer) out (listingOutput index sequence header out)
-write-listing-call index sequence header out =
-    let text = listingText index sequence header in
-    (listing-answered (listingAnswer index sequence header (length out)), listed-kept (leb listingRoom (length out)) (length text) R.NoRoom text out)
+-- `write_listing`, which refuses nothing: a volume's number shows in its text, and a refused volume's text has its number only
+pub write-listing-call : (index sequence header : List ℕ) →
+    let number = volumeNumber (listedAnswer index sequence header) in
+    Numbered number × (Refuses number → listingText index sequence header ≡ refusedText number)
+unfolding listingText
+write-listing-call index sequence header = shown (listedAnswer index sequence header)
+  where
+    shown : (x : VolumeAnswer) → Numbered (volumeNumber x) × (Refuses (volumeNumber x) → answerText index sequence x ≡ refusedText (volumeNumber x))
+    shown (Volume.Passed v) = (inl refl, λ refuses. absurd (refuses refl))
+    shown (Volume.Refused r) = (inr (cause-numbered r), λ refuses. refl)
 
 -- ---- sets
 

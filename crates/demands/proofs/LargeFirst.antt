@@ -3,7 +3,8 @@ use mathlib.Core.Path.{_≡_, refl, ap}
 use mathlib.Core.Bool.{Bool, true, false, cond}
 use mathlib.Core.Logic.{inl, inr}
 use mathlib.Core.List.{List, [], _∷_}
-use Prim.Native.Nat.{ℕ}
+use Prim.Native.Nat.{ℕ, _≤_}
+use native.Mathlib.Omega.{arith}
 use lib.Dec.{leb}
 use lib.ListN.{length}
 use borrow.Author.Tests.{lt-leb}
@@ -16,6 +17,7 @@ use Rattle.byte_runs.specs.Bytes.{packBytesAnswer, unpackBytesAnswer}
 use Rattle.volume.specs.Index.{indexAnswer, indexNumber}
 use Rattle.volume.specs.Volume.{volumeRules, volumeAnswer, volumeNumber}
 use Rattle.sequence.specs.Sequence.{decodeRules, decodeAnswer, decodeNumber}
+use Rattle.listing.specs.Listing.{mostListed, listedAnswer}
 use Rattle.dsqdata.specs.Check.{sizeRules, fileRules, setRules, setCheck, setNumber}
 use Rattle.dsqdata.specs.Lookup.{lookupRules, lookupOf, lookupNumber}
 use Rattle.dsqdata.specs.declared.SetRecord.{SetRecord}
@@ -28,8 +30,12 @@ use Rattle.console.specs.Calls.{consolePack, consoleUnpack, consoleVolume}
 use Rattle.timing.specs.Calls.{timedSet}
 use Rattle.demands.specs.Numbers.{LargeBytes, LargePackets, SomeLarge}
 
+-- no limit up to that of every range lets a large one pass
+not-within : (most : ℕ) (bytes : List ℕ) → most ≤ 2147483647 → LargeBytes bytes → leb (length bytes) most ≡ false
+not-within most bytes l h = lt-leb (length bytes) most (omega arith)
+
 not-fit : (bytes : List ℕ) → LargeBytes bytes → leb (length bytes) 2147483647 ≡ false
-not-fit bytes h = lt-leb (length bytes) 2147483647 h
+not-fit bytes h = not-within 2147483647 bytes (omega arith) h
 
 -- ---- packing and unpacking
 
@@ -69,11 +75,15 @@ module _ {A : Type 0} (refused : A) where
   always true = refl
   always false = refl
 
+  three-within : (most : ℕ) → most ≤ 2147483647 → (a b c : List ℕ) (passed : A) → SomeLarge (a ∷ b ∷ c ∷ [])
+      → cond (leb (length a) most) (cond (leb (length b) most) (cond (leb (length c) most) passed refused) refused) refused ≡ refused
+  three-within most l a b c passed (inl h) = rw (not-within most a l h)
+  three-within most l a b c passed (inr (inl h)) = rw (not-within most b l h, always)
+  three-within most l a b c passed (inr (inr (inl h))) = rw (not-within most c l h, always, always)
+
   three : (a b c : List ℕ) (passed : A) → SomeLarge (a ∷ b ∷ c ∷ [])
       → cond (leb (length a) 2147483647) (cond (leb (length b) 2147483647) (cond (leb (length c) 2147483647) passed refused) refused) refused ≡ refused
-  three a b c passed (inl h) = rw (not-fit a h)
-  three a b c passed (inr (inl h)) = rw (not-fit b h, always)
-  three a b c passed (inr (inr (inl h))) = rw (not-fit c h, always, always)
+  three a b c passed h = three-within 2147483647 (omega arith) a b c passed h
 
   two : (a b : List ℕ) (passed : A) → SomeLarge (a ∷ b ∷ []) → cond (leb (length a) 2147483647) (cond (leb (length b) 2147483647) passed refused) refused ≡ refused
   two a b passed (inl h) = rw (not-fit a h)
@@ -95,6 +105,11 @@ module _ (index sequence header : List ℕ) (h : SomeLarge (index ∷ sequence �
   pub gull-check-volume-large : (room : ℕ) → volumeNumber (consoleVolume index sequence header room) ≡ 22
   unfolding consoleVolume volumeRules
   gull-check-volume-large room = ap volumeNumber (three _ index sequence header _ h)
+
+  -- the number that a listing shows
+  pub listing-large : volumeNumber (listedAnswer index sequence header) ≡ 22
+  unfolding listedAnswer
+  listing-large = ap volumeNumber (three-within _ mostListed (omega arith) index sequence header _ h)
 
 pub decode-large : (index sequence : List ℕ) (number room : ℕ) → SomeLarge (index ∷ sequence ∷ []) → decodeNumber (decodeAnswer index sequence number room) ≡ 22
 unfolding decodeAnswer decodeRules

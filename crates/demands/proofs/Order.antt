@@ -42,8 +42,7 @@ use Rattle.volume.specs.declared.VolumeAnswer.{VolumeAnswer}
 use Rattle.volume.specs.declared.VolumeAnswer.the-variants as Volume
 use Rattle.sequence.specs.Sequence.{decodeRules, decodeAnswer, decodeNumber}
 use Rattle.sequence.specs.declared.DecodeAnswer.the-variants as Decode
-use Rattle.listing.specs.Listing.{listingText, listingAnswer, listingNumber, listingSizeRules, listedAnswer}
-use Rattle.listing.specs.declared.ListingAnswer.the-variants as Listing
+use Rattle.listing.specs.Listing.{listingSizeRules, listedAnswer}
 use Rattle.dsqdata.specs.Header.{recordOf}
 use Rattle.dsqdata.specs.Check.{setRules, setCheck, setNumber}
 use Rattle.dsqdata.specs.Lookup.{lookupRules, foundAt, lookupOf, lookupNumber}
@@ -76,7 +75,7 @@ use Rattle.labels.specs.declared.LabelAnswer.{LabelAnswer}
 use Rattle.labels.specs.declared.LabelAnswer.the-variants as Label
 use Rattle.console.specs.Calls.{consolePackRules, consolePack, consoleUnpackRules, consoleUnpack, consoleVolumeRules, consoleVolume, resultsRule}
 use Rattle.timing.specs.Calls.{timedSet}
-use Rattle.demands.specs.Order.{Ordered, stepRules, identifierRules, lowOffset, highOffset, labelOffsetRules, labelRules, listingRules}
+use Rattle.demands.specs.Order.{Ordered, stepRules, identifierRules, lowOffset, highOffset, labelOffsetRules, labelRules}
 
 -- ---- an answer by a list of rules
 
@@ -177,11 +176,6 @@ module _ (index sequence header : List ℕ) where
   listed-order =
       volume-order index (listingSizeRules index sequence header ++ volumeRules index sequence header) _
       (sym (verdict-append Volume.Refused (Volume.Passed (volumeRecord index)) (listingSizeRules index sequence header) (volumeRules index sequence header)))
-
-  -- `write_listing` itself: 13
-  pub write-listing-order : (room : ℕ) → Ordered Listing.Refused listingNumber (listingRules room) (listingAnswer index sequence header room)
-  write-listing-order room =
-      ordered Listing.Refused listingNumber (λ r. refl) (Listing.Written (length (listingText index sequence header))) refl (listingRules room) _ refl
 
 -- `decode` and `gull_time_decode`: 22; 1 to 6 for the index; 10; 7, 8 for the sequence's own entries; 11 or 12; 13
 pub decode-order : (index sequence : List ℕ) (number room : ℕ)

@@ -4,7 +4,7 @@ use mathlib.Core.Path.{_≡_}
 use mathlib.Core.Logic.{_↔_}
 use mathlib.Core.List.{List, [], _∷_, _++_}
 use Prim.Native.Nat.{ℕ, _+_}
-use lib.Dec.{leb, ltb}
+use lib.Dec.{ltb}
 use lib.IntN.{ℤ}
 use lib.ListN.{length, take}
 use Rattle.laws.specs.Rules.{Rule, ask, AllHold, FirstBroken}
@@ -12,13 +12,12 @@ use Rattle.laws.specs.Signed.{toNat}
 use Rattle.answers.specs.Limits.{bytesFit}
 use Rattle.answers.specs.Numbers.{numberOf}
 use Rattle.answers.specs.declared.Refusal.{Refusal}
-use Rattle.answers.specs.declared.Refusal.the-variants.{TooLarge, NoSuchSequence, NoRoom}
+use Rattle.answers.specs.declared.Refusal.the-variants.{TooLarge, NoSuchSequence}
 use Rattle.volume.specs.Index.{sequences, headerTable, readRules}
 use Rattle.volume.specs.Tables.{offsetAt}
 use Rattle.headers.specs.Record.{elementRules, recordRules}
 use Rattle.deflines.specs.Fields.{titlesOf, identifiersOf}
 use Rattle.labels.specs.Label.{ownRules}
-use Rattle.listing.specs.Listing.{listingRoom}
 
 -- A call that a list of rules decides. A cause is that of the first broken rule: all rules before that one hold.
 pub record Ordered {A : Type 0} (refused : Refusal → A) (number : A → ℕ) (rules : List (Rule Refusal)) (answer : A) : Type 0 where
@@ -78,7 +77,3 @@ abbrev pub labelRules : List ℕ → List ℕ → ℕ → List (Rule Refusal)
 labelRules index header number =
     labelOffsetRules index header number
     ++ elementRules (take (toNat (highOffset index number)) header) (toNat (lowOffset index number))
-
--- A listing: 13 where the output has not the room that every listing has.
-abbrev pub listingRules : ℕ → List (Rule Refusal)
-listingRules room = ask (leb listingRoom room) NoRoom ∷ []

@@ -3,11 +3,10 @@
 use libc::STDERR_FILENO;
 use libc::STDOUT_FILENO;
 use listing::LISTING_ROOM;
-use listing::ListingAnswer;
 ghost use Rattle.io.specs.Counts.{Counts};
 
 // One byte more than is listed of a file, so that a larger file is known.
-const MOST_READ: usize = 16385;
+const MOST_READ: usize = listing::MOST_LISTED + 1;
 
 // How many bytes of a file came, and whether all that were asked for could be read.
 struct Loaded {
@@ -83,9 +82,7 @@ fn load(argument: usize, buf: &mut [u8]) -> Loaded
 
 fn put_listing(index: &[u8], sequence: &[u8], header: &[u8]) {
     let mut out = [0u8; LISTING_ROOM];
-    let ListingAnswer::Written(n) = listing::write_listing(index, sequence, header, &mut out) else {
-        return;
-    };
+    let n = listing::write_listing(index, sequence, header, &mut out);
     if !io::write_all(STDOUT_FILENO, &out[..n]) {
         tell(b"standard output");
     }

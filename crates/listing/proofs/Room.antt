@@ -1,17 +1,16 @@
--- Every listing fits in the room that the call asks for. Assumes nothing.
+-- Every listing fits in the output. Assumes nothing.
 use mathlib.Core.Path.{_≡_, refl}
-use mathlib.Core.Bool.{Bool, true, false, cond}
+use mathlib.Core.Bool.{cond}
 use mathlib.Core.Logic.{⊎-elim}
 use mathlib.Core.List.{List, []}
 use Prim.Native.Nat.{ℕ, zero, suc, _*_, _/_, _≤_}
 use native.Mathlib.Omega.{arith}
 use borrow.Author.Tests.{leb-true}
-use lib.Dec.{eqb, leb, ltb}
+use lib.Dec.{eqb, ltb}
 use lib.ListN.{length, length-append}
 use Rattle.laws.proofs.Choices.{cond-elim}
 use Rattle.laws.proofs.Passing.{passes-with}
 use Rattle.answers.specs.declared.Refusal.{Refusal}
-use Rattle.answers.specs.declared.Refusal.the-variants.{NoRoom}
 use Rattle.answers.specs.Numbers.{numberOf}
 use Rattle.volume.specs.declared.VolumeRecord.{VolumeRecord}
 use Rattle.volume.specs.declared.VolumeAnswer.{VolumeAnswer}
@@ -22,8 +21,7 @@ use Rattle.volume.specs.Volume.{volumeRecord, volumeAnswer}
 use Rattle.volume.specs.Holds.{FieldsHold}
 use Rattle.volume.proofs.Exact.{passed-rules}
 use Rattle.listing.proofs.Texts.{head-size, volume-size}
-use Rattle.listing.specs.declared.ListingAnswer.the-variants.{Written, Refused}
-use Rattle.listing.specs.Listing.{space, lineFeed, lastDigits, decimal, numberThen, proteinWord, dnaWord, typeText, headText, lengthText, lengthsText, refusedText, listingSizeRules, listedAnswer, volumeText, answerText, listingText, listingRoom, listingAnswer}
+use Rattle.listing.specs.Listing.{space, lineFeed, lastDigits, decimal, numberThen, proteinWord, dnaWord, typeText, headText, lengthText, lengthsText, refusedText, listingSizeRules, listedAnswer, volumeText, answerText, listingText, listingRoom}
 
 digits-length : (k n : ℕ) → length (lastDigits k n) ≤ k
 unfolding lastDigits
@@ -89,11 +87,3 @@ module _ (index sequence header : List ℕ) where
       go : (a : VolumeAnswer) → listedAnswer index sequence header ≡ a → length (answerText index sequence a) ≤ listingRoom
       go (A.Passed v) e = volume-fits v e
       go (A.Refused r) e = refused-fits (numberOf r)
-
-  -- what the call says that it wrote fits too
-  pub written-fits : (room n : ℕ) → listingAnswer index sequence header room ≡ Written n → n ≤ listingRoom
-  written-fits room n e = go (leb listingRoom room) e
-    where
-      go : (b : Bool) → cond b (Written (length (listingText index sequence header))) (Refused NoRoom) ≡ Written n → n ≤ listingRoom
-      go true f = let z : n ≡ length (listingText index sequence header) = cc in omega (arith, listing-fits)
-      go false f = let z : _≡_ {A = ℕ} 0 1 = cc in absurd (let y : ⊥ = omega arith in y)

@@ -7,15 +7,15 @@ use mathlib.Core.Logic.{⊎-elim}
 use native.Mathlib.Nat.{eq-or-lt-of-le, le-of-suc-le-suc, not-suc-le-zero, div-lt-iff-lt-mul, mod-eq-of-lt, pow-suc}
 use native.Mathlib.Numerals.{add-one}
 use native.Mathlib.Omega.{arith}
-use borrow.Author.Tests.{lt-ltb, le-ltb, le-leb}
+use borrow.Author.Tests.{lt-ltb, le-ltb}
 use lib.Dec.{ltb}
 use lib.ListN.{length, take, drop, set, length-append}
 use lib.Seq.{set-split, paste-zero}
+use Rattle.laws.specs.Writing.{writtenAt}
 use Rattle.laws.proofs.Writing.{written-twice, paste-whole}
 use Rattle.volume.specs.declared.VolumeRecord.{VolumeRecord}
 use Rattle.volume.specs.Tables.{lengthOfNumber}
-use Rattle.listing.specs.declared.ListingAnswer.the-variants.{Written}
-use Rattle.listing.specs.Listing.{space, lineFeed, digitOf, lastDigits, decimal, numberThen, typeText, headText, lengthText, lengthsText, volumeText, listingText, listingRoom, listingAnswer, listingOutput, Put}
+use Rattle.listing.specs.Listing.{space, lineFeed, digitOf, lastDigits, decimal, numberThen, typeText, headText, lengthText, lengthsText, volumeText, listingText, Put}
 
 -- ---- texts
 
@@ -94,10 +94,7 @@ lengths-grow f i (suc n) h =
 
 -- ---- the call
 
--- the whole text, put at the start of a range that has room
-pub listing-put : (index sequence header : List ℕ) {old text new : List ℕ} {next : ℕ} → listingRoom ≤ length old → listingText index sequence header ≡ text
-    → Put old 0 text new next → (Written next ≡ listingAnswer index sequence header (length old)) × (new ≡ listingOutput index sequence header old)
-listing-put index sequence header {old} {text} {new} {next} h e p =
-    let l = le-leb listingRoom (length old) h in
-    let n : next ≡ length text = omega (arith, p .place) in
-    (rw (l, e, n), rw (l, e) (p .holds))
+-- the whole text, put at the start of the output
+pub listing-put : (index sequence header : List ℕ) {old text new : List ℕ} {next : ℕ} → listingText index sequence header ≡ text → Put old 0 text new next
+    → (next ≡ length (listingText index sequence header)) × (new ≡ writtenAt 0 (listingText index sequence header) old)
+listing-put index sequence header e p = (rw e (omega (arith, p .place)), rw e (p .holds))

@@ -10,14 +10,12 @@ use Rattle.laws.specs.Rules.{Rule, ask, verdict}
 use Rattle.laws.specs.Writing.{writtenAt}
 use Rattle.answers.specs.Numbers.{numberOf}
 use Rattle.answers.specs.declared.Refusal.{Refusal}
-use Rattle.answers.specs.declared.Refusal.the-variants.{NoRoom, TooLarge}
+use Rattle.answers.specs.declared.Refusal.the-variants.{TooLarge}
 use Rattle.volume.specs.declared.VolumeRecord.{VolumeRecord}
 use Rattle.volume.specs.declared.VolumeAnswer.{VolumeAnswer}
 use Rattle.volume.specs.declared.VolumeAnswer.the-variants as A
 use Rattle.volume.specs.Tables.{lengthOfNumber}
 use Rattle.volume.specs.Volume.{volumeAnswer}
-use Rattle.listing.specs.declared.ListingAnswer.{ListingAnswer}
-use Rattle.listing.specs.declared.ListingAnswer.the-variants.{Written, Refused}
 
 -- ---- bytes
 
@@ -106,28 +104,9 @@ answerText index sequence (A.Refused r) = refusedText (numberOf r)
 unfoldable pub listingText : List ℕ → List ℕ → List ℕ → List ℕ
 listingText index sequence header = answerText index sequence (listedAnswer index sequence header)
 
--- ---- the call
-
--- The room that the call asks for, whatever it will write. It is enough for every listing: proofs/Room.antt.
+-- The room that the output has: every text fits in it (proofs/Room.antt).
 abbrev pub listingRoom : ℕ
 listingRoom = 131072
-
--- The answer: how many bytes the text has, or 13 where the output has not that room.
-abbrev pub listingAnswer : List ℕ → List ℕ → List ℕ → ℕ → ListingAnswer
-listingAnswer index sequence header room = cond (leb listingRoom room) (Written (length (listingText index sequence header))) (Refused NoRoom)
-
--- The output afterwards: the text at its start and the rest as it was; all as it was where it has not that room.
-abbrev pub listingOutput : List ℕ → List ℕ → List ℕ → List ℕ → List ℕ
-listingOutput index sequence header out = cond (leb listingRoom (length out)) (writtenAt 0 (listingText index sequence header) out) out
-
--- Document 01's number of an answer, and its values.
-abbrev pub listingNumber : ListingAnswer → ℕ
-listingNumber (Written n) = 0
-listingNumber (Refused r) = numberOf r
-
-abbrev pub listingValues : ListingAnswer → List ℕ
-listingValues (Written n) = n ∷ []
-listingValues (Refused r) = []
 
 -- ---- parts of the output
 

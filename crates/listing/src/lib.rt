@@ -1,4 +1,4 @@
-// The listing of a volume: document 01's text, written into a lent range.
+// The listing of a volume: document 01's text, written into a lent array that has room for every listing.
 use answers::Refusal;
 use volume::VolumeAnswer;
 use volume::VolumeRecord;
@@ -6,19 +6,15 @@ ghost use mathlib.Core.Path.{_≡_};
 ghost use mathlib.Core.List.{[], _∷_};
 ghost use Prim.Native.Nat.{_+_, _≤_, _<_};
 ghost use lib.ListN.{length};
+ghost use Rattle.laws.specs.Writing.{writtenAt};
 ghost use Rattle.volume.specs.Tables.{lengthOfNumber};
-ghost use Rattle.listing.specs.Listing.{digitOf, decimal, numberThen, typeText, headText, lengthText, lengthsText, refusedText, listedAnswer, volumeText, listingAnswer, listingOutput, Put};
+ghost use Rattle.listing.specs.Listing.{digitOf, decimal, numberThen, typeText, headText, lengthText, lengthsText, refusedText, listedAnswer, volumeText, listingText, Put};
 
 // The most bytes of a file that is listed.
-const MOST_LISTED: usize = 16384;
+pub const MOST_LISTED: usize = 16384;
 
-// The room that `write_listing` asks for. Every listing fits in it.
+// The room of a listing: every text fits in it.
 pub const LISTING_ROOM: usize = 131072;
-
-pub enum ListingAnswer {
-    Written(usize),
-    Refused(Refusal),
-}
 
 // Puts a byte at a place; the place behind it, as all that follow.
 fn put_byte(out: &mut [u8], at: usize, b: u8) -> usize
@@ -149,22 +145,18 @@ fn check_listed(index: &[u8], sequence: &[u8], header: &[u8]) -> VolumeAnswer
     volume::check_volume(index, sequence, header)
 }
 
-// Writes the listing of a volume at the start of a range; how many bytes it has.
-pub fn write_listing(index: &[u8], sequence: &[u8], header: &[u8], out: &mut [u8]) -> ListingAnswer
-    ensures answer { λ r. ⌜ r ≡ listingAnswer (now (index .entry)) (now (sequence .entry)) (now (header .entry)) (length (now (out .entry))) ⌝ }
-    ensures out { λ _. ⌜ now (out .exit) ≡ listingOutput (now (index .entry)) (now (sequence .entry)) (now (header .entry)) (now (out .entry)) ⌝ }
+// Writes the listing of a volume at the start of the output; how many bytes it has.
+pub fn write_listing(
+    index: &[u8],
+    sequence: &[u8],
+    header: &[u8],
+    out: &mut [u8; LISTING_ROOM],
+) -> usize
+    ensures len { λ r. ⌜ r ≡ length (listingText (now (index .entry)) (now (sequence .entry)) (now (header .entry))) ⌝ }
+    ensures out { λ _. ⌜ now (out .exit) ≡ writtenAt 0 (listingText (now (index .entry)) (now (sequence .entry)) (now (header .entry))) (now (out .entry)) ⌝ }
 {
-    if out.len() < LISTING_ROOM {
-        return ListingAnswer::Refused(Refusal::NoRoom);
-    }
     match check_listed(index, sequence, header) {
-        VolumeAnswer::Refused(r) => {
-            let len = put_refused(out, answers::number(r) as usize);
-            ListingAnswer::Written(len)
-        }
-        VolumeAnswer::Passed(v) => {
-            let len = put_volume(out, index, sequence, v);
-            ListingAnswer::Written(len)
-        }
+        VolumeAnswer::Refused(r) => put_refused(out, answers::number(r) as usize),
+        VolumeAnswer::Passed(v) => put_volume(out, index, sequence, v),
     }
 }
