@@ -143,7 +143,7 @@ pub fn pack(alphabet: u32, codes: &[u8], packets: &mut [u32], place: PacketPos) 
 }
 
 // Whether packets are a well-formed run.
-pub fn is_run(alphabet: u32, packets: &[u32]) -> bool
+fn is_run(alphabet: u32, packets: &[u32]) -> bool
     ensures { λ r. ⌜ r ≡ wellFormed alphabet (now (packets .entry)) ⌝ }
 {
     if packets.len() == 0 {
