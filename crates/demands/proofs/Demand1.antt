@@ -243,12 +243,6 @@ module _ (alphabet : ℕ) (codes : List ℕ) where
       (a, packed-kept answer (writtenAt (byteOf 0 at) (bytesOf (run alphabet codes)) buffer) buffer, results-kept (packNumber answer) (packValues answer) results a)
 
 module _ (alphabet : ℕ) where
-  -- `unpack_answer`
-  pub unpack-answer-call : (packets : List ℕ) (room : ℕ) →
-      let answer = unpackAnswer alphabet packets room in
-      Answered (unpackNumber answer) (unpackValues answer)
-  unpack-answer-call packets room = unpack-answered (unpackAnswer alphabet packets room)
-
   -- `unpack` and its output
   pub unpack-call : (packets out : List ℕ) →
       let answer = unpackAnswer alphabet packets (length out) in

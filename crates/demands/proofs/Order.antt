@@ -131,7 +131,7 @@ module _ (alphabet : ℕ) (codes : List ℕ) where
   gull-pack-order buffer at room = packed-order (length (run alphabet codes)) (length codes) (consolePackRules alphabet codes buffer at room)
 
 module _ (alphabet : ℕ) where
-  -- `unpack_answer` and `unpack`: 22, 3, 17, 13
+  -- `unpack`: 22, 3, 17, 13
   pub unpack-order : (packets : List ℕ) (room : ℕ) → Ordered Unpack.Refused unpackNumber (unpackRules alphabet packets room) (unpackAnswer alphabet packets room)
   unfolding unpackAnswer
   unpack-order packets room = unpacked-order packets (unpackRules alphabet packets room)

@@ -15,16 +15,16 @@ nested zero inner = inner
 nested (suc n) inner = (48 ∷ 128 ∷ nested n inner) ++ (0 ∷ 0 ∷ [])
 
 -- depth 16 passes
-sixteen : read 16 F.Any (nested 15 (2 ∷ 1 ∷ 0 ∷ [])) 0 ≡ End 63
+pub sixteen : read 16 F.Any (nested 15 (2 ∷ 1 ∷ 0 ∷ [])) 0 ≡ End 63
 unfolding nested read startOf listEnd integerPart integerAllowed textPart longPart partAt value opens closes tooDeep
 sixteen = refl
 
 -- 17 is 21
-seventeen : read 16 F.Any (nested 16 (2 ∷ [])) 0 ≡ Refused TooDeep
+pub seventeen : read 16 F.Any (nested 16 (2 ∷ [])) 0 ≡ Refused TooDeep
 unfolding nested read startOf listEnd integerPart integerAllowed textPart longPart partAt value opens closes tooDeep
 seventeen = refl
 
 -- another wrong byte there is 20
-wrong-byte : read 16 F.Any (nested 16 (5 ∷ [])) 0 ≡ Refused BadHeader
+pub wrong-byte : read 16 F.Any (nested 16 (5 ∷ [])) 0 ≡ Refused BadHeader
 unfolding nested read startOf listEnd integerPart integerAllowed textPart longPart partAt value opens closes tooDeep
 wrong-byte = refl

@@ -177,7 +177,7 @@ fn count_residues(alphabet: u32, packets: &[u32]) -> usize
 }
 
 // What unpacking answers with so many bytes of room; nothing is written.
-pub fn unpack_answer(alphabet: u32, packets: &[u32], room: usize) -> UnpackAnswer
+fn unpack_answer(alphabet: u32, packets: &[u32], room: usize) -> UnpackAnswer
     ensures { λ r. ⌜ r ≡ unpackAnswer alphabet (now (packets .entry)) room ⌝ }
 {
     if packets.len() > answers::MOST_PACKETS {
