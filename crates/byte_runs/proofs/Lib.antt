@@ -1,3 +1,4 @@
 pub mod Stores
 pub mod Answers
 pub mod Rules
+pub mod Bodies

@@ -5,7 +5,7 @@ use mathlib.Core.List.{List, [], _∷_}
 use Prim.Native.Nat.{ℕ, _/_}
 use native.Mathlib.Omega.{arith}
 use lib.ListN.{length}
-use Rattle.laws.proofs.Rules.{last-holds, last-broken, last-unasked}
+use Rattle.laws.proofs.Rules.{not-refused, hold-second, last-holds, last-broken, last-unasked}
 use Rattle.answers.specs.declared.Refusal.{Refusal}
 use Rattle.answers.specs.declared.Refusal.the-variants.{NoRoom}
 use Rattle.packets.specs.Packing.{run}
@@ -19,7 +19,7 @@ use Rattle.runs.specs.declared.UnpackAnswer.{UnpackAnswer}
 use Rattle.runs.specs.declared.PackAnswer.the-variants as P
 use Rattle.runs.specs.declared.UnpackAnswer.the-variants as U
 use Rattle.console.specs.Results.{roomFor, resultsPut}
-use Rattle.console.specs.Calls.{consolePack, consoleBuffer, packResults, consoleUnpack, consoleCodes, unpackResults}
+use Rattle.console.specs.Calls.{resultsRule, consolePackRules, consolePack, consoleBuffer, packResults, consoleUnpack, consoleCodes, unpackResults}
 use Rattle.console.proofs.Values.{put-nothing}
 
 pack-cause : (r s : Refusal) → P.Refused s ≡ P.Refused r → s ≡ r
@@ -56,6 +56,22 @@ module _ (alphabet : ℕ) (codes buffer : List ℕ) (place room : ℕ) where
       last-broken P.Refused (P.Packed (length (run alphabet codes)) (length codes)) (packRules alphabet codes (length buffer / 4) place) (roomFor 2 room) NoRoom
       (P.Packed n l) (packed-not n l) h e
 
+  -- what is packed had room for the results
+  pub packed-room : (n l : ℕ) → consolePack alphabet codes buffer place room ≡ P.Packed n l → roomFor 2 room ≡ true
+  unfolding consolePack
+  packed-room n l e =
+      hold-second (packRules alphabet codes (length buffer / 4) place) (resultsRule 2 room)
+      (not-refused P.Refused (P.Packed (length (run alphabet codes)) (length codes)) (P.Packed n l) (consolePackRules alphabet codes buffer place room) (packed-not n l) e) .0
+
+  -- the buffer after: with room as packing into bytes leaves it, and as it was on a refusal
+  pub buffer-room : roomFor 2 room ≡ true → consoleBuffer alphabet codes buffer place room ≡ bytesAfter alphabet codes buffer place
+  unfolding consoleBuffer bytesAfter
+  buffer-room h = rw (pack-room h)
+
+  pub buffer-kept : (r : Refusal) → consolePack alphabet codes buffer place room ≡ P.Refused r → consoleBuffer alphabet codes buffer place room ≡ buffer
+  unfolding consoleBuffer
+  buffer-kept r e = rw e
+
 module _ (alphabet : ℕ) (bytes : List ℕ) (out room : ℕ) where
   pub unpack-room : roomFor 2 room ≡ true → consoleUnpack alphabet bytes out room ≡ unpackBytesAnswer alphabet bytes out
   unfolding consoleUnpack unpackBytesAnswer
@@ -74,6 +90,12 @@ module _ (alphabet : ℕ) (bytes : List ℕ) (out room : ℕ) where
   unpack-short h n l e =
       last-broken U.Refused (U.Unpacked (length (packetsOf bytes)) (length (unpacked (packetsOf bytes)))) (unpackBytesRules alphabet bytes out) (roomFor 2 room) NoRoom
       (U.Unpacked n l) (unpacked-not n l) h e
+
+-- the output after: with room as unpacking bytes leaves it
+pub codes-room : (alphabet : ℕ) (bytes codes : List ℕ) (room : ℕ) → roomFor 2 room ≡ true
+    → consoleCodes alphabet bytes codes room ≡ codesAfterBytes alphabet bytes codes
+unfolding consoleCodes codesAfterBytes
+codes-room alphabet bytes codes room h = rw (unpack-room alphabet bytes (length codes) room h)
 
 -- ---- every range after a call, by its answer
 

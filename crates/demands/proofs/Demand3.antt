@@ -9,12 +9,14 @@ use Rattle.packets.specs.Ends.{Makes}
 use Rattle.packets.proofs.Ends.{ends-unique}
 use Rattle.runs.specs.Bodies.{Item, body, sequencesOf, AllValid, Begins, Buffer, afterCalls, packedOf, Holds}
 use Rattle.runs.proofs.Bodies.{body-prefix, body-injective, calls-body}
+use Rattle.byte_runs.specs.Bodies.{ByteBuffer, afterByteCalls, bytesPackedOf, HoldsBytes}
+use Rattle.byte_runs.proofs.Bodies.{byte-calls-body}
 use Rattle.dsqdata.specs.Header.{alphabetOf, bodyOf}
 use Rattle.dsqdata.specs.Ends.{packetEnds}
 use Rattle.dsqdata.specs.Check.{setCheck, setNumber}
 use Rattle.dsqdata.specs.Rules.{OtherRules}
 use Rattle.dsqdata.proofs.Demand as Set
-use Rattle.console.specs.Bodies.{ConsoleCall, ByteBuffer, afterConsoleCalls, consolePackedOf, HoldsBytes}
+use Rattle.console.specs.Bodies.{ConsoleCall, afterConsoleCalls, consolePackedOf}
 use Rattle.console.proofs.Bodies.{console-calls-body}
 
 -- (a) If the body of a first list of sequences is a beginning of the body of a second, the first list is a beginning of the second, residue
@@ -34,11 +36,17 @@ pub calls-leave-body : (packets : List ℕ) (calls : List Item) →
     Holds packets (body (packedOf first calls)) (afterCalls first calls)
 calls-leave-body = calls-body
 
+-- The same over `pack_bytes`, on a buffer of bytes, whose length a 64-bit machine can count.
+pub byte-calls-leave-body : (bytes : List ℕ) (calls : List Item) → length bytes < 18446744073709551616 →
+    let first : ByteBuffer = record { bytes = bytes; place = 0 } in
+    HoldsBytes bytes (body (bytesPackedOf first calls)) (afterByteCalls first calls)
+byte-calls-leave-body bytes calls short = byte-calls-body bytes short calls
+
 -- The same over the console's calls, on a buffer of bytes, whose length a 64-bit machine can count.
 pub console-calls-leave-body : (bytes : List ℕ) (calls : List ConsoleCall) → length bytes < 18446744073709551616 →
     let first : ByteBuffer = record { bytes = bytes; place = 0 } in
     HoldsBytes bytes (body (consolePackedOf first calls)) (afterConsoleCalls first calls)
-console-calls-leave-body = console-calls-body
+console-calls-leave-body bytes calls short = console-calls-body bytes short calls
 
 -- (c) For every body and alphabet at most one list of ends makes it well formed; ends are signed, as an index has them.
 pub one-list-of-ends : (alphabet : ℕ) (packets : List ℕ) (ends others : List ℤ) → Makes alphabet packets ends → Makes alphabet packets others → ends ≡ others

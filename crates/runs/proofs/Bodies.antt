@@ -8,17 +8,18 @@ use native.Mathlib.Omega.{arith}
 use lib.ListN.{length, take, drop, length-append, length-drop}
 use lib.Seq.{take-at, drop-append-add, drop-drop}
 use Rattle.laws.specs.Writing.{writtenAt}
+use Rattle.answers.specs.declared.Refusal.{Refusal}
 use Rattle.residues.specs.Alphabets.{validCodes}
 use Rattle.packets.specs.Packing.{run}
 use Rattle.packets.specs.Runs.{unpacked}
 use Rattle.packets.proofs.Packing.{run-some}
 use Rattle.packets.proofs.Round.{run-formed, unpacked-run, formed-well}
 use Rattle.packets.proofs.Ends.{cut}
-use Rattle.runs.specs.Answers.{packAnswer, packetsAfter, ifPacked}
-use Rattle.runs.specs.Bodies.{Item, body, sequencesOf, AllValid, Begins, Buffer, taken, ifTaken, callAnswer, afterCall, afterCalls, packedOf, Holds}
+use Rattle.runs.specs.Answers.{packAnswer}
+use Rattle.runs.specs.Bodies.{Item, body, sequencesOf, AllValid, Begins, ifTaken, afterEach, packedBy, Buffer, callAnswer, afterCall, afterCalls, packedOf, Holds}
 use Rattle.runs.specs.declared.PackAnswer.{PackAnswer}
 use Rattle.runs.specs.declared.PackAnswer.the-variants.{Packed, Refused}
-use Rattle.runs.proofs.Answers.{packed-may, pack-done}
+use Rattle.runs.proofs.Answers.{packed-may, pack-done, packets-kept, packets-written}
 
 -- equal beginnings: the first sequences and what follows are equal
 split-body : (s s′ : Item) (t t′ : List ℕ) → validCodes (s .alphabet) (s .codes) ≡ true → validCodes (s′ .alphabet) (s′ .codes) ≡ true
@@ -67,46 +68,60 @@ packed-means a cs room place n l e =
     let g : n ≡ length (run a cs) = cc in
     (g, m .fits)
 
--- a run put at the place reached
-put-run : (ps B : List ℕ) (b : Buffer) (R : List ℕ) → Holds ps B b → b .place + length R ≤ length (b .packets)
-    → Holds ps (B ++ R) (record { packets = writtenAt (b .place) R (b .packets); place = b .place + length R })
-put-run ps B b R r h =
-    let len : length (b .packets) ≡ length ps = ap length (r .packetsAre) ∙ (length-append B (drop (length B) ps) ∙ omega (arith, length-drop (length B) ps, r .within)) in
-    let t : take (b .place) (b .packets) ≡ B = rw (r .placeIs, r .packetsAre) (take-at B (drop (length B) ps) (length B) refl) in
-    let d : drop (b .place + length R) (b .packets) ≡ drop (length B + length R) ps =
-    rw (r .placeIs, r .packetsAre) (drop-append-add B (drop (length B) ps) (length R) ∙ drop-drop (length R) (length B) ps) in
+-- A list written behind a beginning of a range: first the whole, then what is as at first.
+pub written-behind : (first start new range : List ℕ) → range ≡ start ++ drop (length start) first
+    → writtenAt (length start) new range ≡ (start ++ new) ++ drop (length start + length new) first
+written-behind first start new range e =
+    let t : take (length start) range ≡ start = rw e (take-at start (drop (length start) first) (length start) refl) in
+    let d : drop (length start + length new) range ≡ drop (length start + length new) first =
+    rw e (drop-append-add start (drop (length start) first) (length new) ∙ drop-drop (length new) (length start) first) in
+    rw (t, d)
+
+-- its length stays
+pub length-behind : (first start range : List ℕ) → range ≡ start ++ drop (length start) first → length start ≤ length first → length range ≡ length first
+length-behind first start range e h =
+    ap length e ∙ (length-append start (drop (length start) first) ∙ omega (arith, length-drop (length start) first))
+
+-- Calls of any kind, over any kind of buffer: `Has packets buffer` says what a buffer has. Where a call that packs adds its run, and a refused one
+-- adds nothing, a list of calls adds the body of the sequences packed.
+module _ {B C : Type 0} (item : C → Item) (answer : B → C → PackAnswer) (after : B → C → B) (Has : List ℕ → B → Type 0)
+    (packs : (ps : List ℕ) (b : B) (c : C) (n l : ℕ) → Has ps b → answer b c ≡ Packed n l → Has (ps ++ run (item c .alphabet) (item c .codes)) (after b c))
+    (refuses : (ps : List ℕ) (b : B) (c : C) (r : Refusal) → Has ps b → answer b c ≡ Refused r → Has ps (after b c)) where
+  one-call : (ps : List ℕ) (b : B) (c : C) (more : List Item) (x : PackAnswer) → answer b c ≡ x → Has ps b
+      → (qs : List ℕ) × Has qs (after b c) × (ps ++ body (ifTaken x (item c) more) ≡ qs ++ body more)
+  one-call ps b c more (Packed n l) e h =
+      let R = run (item c .alphabet) (item c .codes) in
+      (ps ++ R, packs ps b c n l h e, sym (append-assoc ps R (body more)))
+  one-call ps b c more (Refused r) e h = (ps, refuses ps b c r h e, refl)
+
+  pub calls-add : (ps : List ℕ) (b : B) (calls : List C) → Has ps b → Has (ps ++ body (packedBy item answer after b calls)) (afterEach after b calls)
+  calls-add ps b [] h = rw append-nil h
+  calls-add ps b (c ∷ calls) h =
+      let s = one-call ps b c (packedBy item answer after (after b c) calls) (answer b c) refl h in
+      rw (s .2) (calls-add (s .0) (after b c) calls (s .1))
+
+-- ---- calls of `pack`
+
+call-packs : (first ps : List ℕ) (b : Buffer) (s : Item) (n l : ℕ) → Holds first ps b → callAnswer b s ≡ Packed n l
+    → Holds first (ps ++ run (s .alphabet) (s .codes)) (afterCall b s)
+call-packs first ps b s n l h e =
+    let R = run (s .alphabet) (s .codes) in
+    let m = packed-means (s .alphabet) (s .codes) (length (b .packets)) (b .place) n l e in
+    let len = length-behind first ps (b .packets) (h .packetsAre) (h .within) in
     record {
-      within = omega (arith, length-append B R, len, r .placeIs);
-      placeIs = omega (arith, length-append B R, r .placeIs);
-      packetsAre = rw (t, d, length-append);
+      within = omega (arith, length-append ps R, h .placeIs);
+      placeIs = rw e (omega (arith, length-append ps R, h .placeIs));
+      packetsAre =
+          packets-written (s .alphabet) (s .codes) (b .packets) (b .place) n l e
+          ∙ rw (h .placeIs, length-append) (written-behind first ps R (b .packets) (h .packetsAre));
     }
 
-one-call : (ps B : List ℕ) (b : Buffer) (s : Item) → Holds ps B b → Holds ps (B ++ body (ifTaken (callAnswer b s) s [])) (afterCall b s)
-unfolding packetsAfter
-one-call ps B b s r = go (callAnswer b s) refl
-  where
-    R : List ℕ
-    R = run (s .alphabet) (s .codes)
-
-    go : (x : PackAnswer) → callAnswer b s ≡ x
-        → Holds ps (B ++ body (ifTaken x s [])) (record {
-          packets = ifPacked x (writtenAt (b .place) R (b .packets)) (b .packets);
-          place = b .place + taken x;
-        })
-    go (Packed n l) e =
-        let m = packed-means (s .alphabet) (s .codes) (length (b .packets)) (b .place) n l e in
-        rw (append-nil, m .0) (put-run ps B b R r (m .1))
-    go (Refused n) e = rw (append-nil, add-zero) r
-
-pub taken-body : (x : PackAnswer) (s : Item) (ss : List Item) → body (ifTaken x s ss) ≡ body (ifTaken x s []) ++ body ss
-taken-body (Packed n l) s ss = rw append-nil
-taken-body (Refused n) s ss = refl
-
-calls-hold : (ps B : List ℕ) (b : Buffer) (ss : List Item) → Holds ps B b → Holds ps (B ++ body (packedOf b ss)) (afterCalls b ss)
-calls-hold ps B b [] r = rw append-nil r
-calls-hold ps B b (s ∷ ss) r =
-    rw (taken-body (callAnswer b s) s (packedOf (afterCall b s) ss), ← append-assoc B (body (ifTaken (callAnswer b s) s [])) (body (packedOf (afterCall b s) ss)))
-    (calls-hold ps (B ++ body (ifTaken (callAnswer b s) s [])) (afterCall b s) ss (one-call ps B b s r))
+call-refuses : (first ps : List ℕ) (b : Buffer) (s : Item) (r : Refusal) → Holds first ps b → callAnswer b s ≡ Refused r → Holds first ps (afterCall b s)
+call-refuses first ps b s r h e = record {
+  within = h .within;
+  placeIs = rw (e, add-zero) (h .placeIs);
+  packetsAre = packets-kept (s .alphabet) (s .codes) (b .packets) (b .place) r e ∙ h .packetsAre;
+}
 
 -- After any list of packing calls, refused ones included, that starts at place 0 of any packet buffer, the packets before the place
 -- reached are exactly the body of the sequences packed, in that order, and all others are as at first.
@@ -114,4 +129,5 @@ pub calls-body : (ps : List ℕ) (ss : List Item) →
     let b : Buffer = record { packets = ps; place = 0 } in
     Holds ps (body (packedOf b ss)) (afterCalls b ss)
 calls-body ps ss =
-    calls-hold ps [] (record { packets = ps; place = 0 }) ss (record { within = omega arith; placeIs = refl; packetsAre = refl })
+    calls-add (λ s. s) callAnswer afterCall (Holds ps) (call-packs ps) (call-refuses ps) [] (record { packets = ps; place = 0 }) ss
+    (record { within = omega arith; placeIs = refl; packetsAre = refl })

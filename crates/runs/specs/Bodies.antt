@@ -35,12 +35,7 @@ AllValid (s ∷ items) = (validCodes (s .alphabet) (s .codes) ≡ true) × AllVa
 abbrev pub Begins {ℓ} : {A : Type ℓ} → List A → List A → Type ℓ
 Begins {A} first second = (rest : List A) × (first ++ rest ≡ second)
 
--- ---- packing calls, one after another
-
--- A packet buffer and the place of the next call.
-pub record Buffer : Type 0 where
-  pub packets : List ℕ
-  pub place : ℕ
+-- ---- packing calls, one after another: of any kind C, over buffers of any kind B
 
 -- The packets that a call returned; none where it was refused.
 abbrev pub taken : PackAnswer → ℕ
@@ -52,11 +47,28 @@ abbrev pub ifTaken : PackAnswer → Item → List Item → List Item
 ifTaken (Packed packets residues) s items = s ∷ items
 ifTaken (Refused r) s items = items
 
+-- Each call gets the buffer as the call before left it.
+abbrev pub afterEach : {B C : Type 0} → (B → C → B) → B → List C → B
+afterEach after buffer [] = buffer
+afterEach after buffer (call ∷ calls) = afterEach after (after buffer call) calls
+
+-- The sequences that the calls packed, by the answer to each.
+abbrev pub packedBy : {B C : Type 0} → (C → Item) → (B → C → PackAnswer) → (B → C → B) → B → List C → List Item
+packedBy item answer after buffer [] = []
+packedBy item answer after buffer (call ∷ calls) =
+    ifTaken (answer buffer call) (item call) (packedBy item answer after (after buffer call) calls)
+
+-- ---- calls of `pack`
+
+-- A packet buffer and the place of the next call.
+pub record Buffer : Type 0 where
+  pub packets : List ℕ
+  pub place : ℕ
+
 abbrev pub callAnswer : Buffer → Item → PackAnswer
 callAnswer buffer s = packAnswer (s .alphabet) (s .codes) (length (buffer .packets)) (buffer .place)
 
--- A call gets the buffer as the call before left it, and as its place that call's place plus the packets it returned, or the
--- same place if it was refused.
+-- The buffer after a call; the next place is the call's place plus the packets it returned, or the same place if it was refused.
 abbrev pub afterCall : Buffer → Item → Buffer
 afterCall buffer s = record {
   packets = packetsAfter (s .alphabet) (s .codes) (buffer .packets) (buffer .place);
@@ -64,13 +76,11 @@ afterCall buffer s = record {
 }
 
 abbrev pub afterCalls : Buffer → List Item → Buffer
-afterCalls buffer [] = buffer
-afterCalls buffer (s ∷ items) = afterCalls (afterCall buffer s) items
+afterCalls = afterEach afterCall
 
 -- The sequences that calls packed.
 abbrev pub packedOf : Buffer → List Item → List Item
-packedOf buffer [] = []
-packedOf buffer (s ∷ items) = ifTaken (callAnswer buffer s) s (packedOf (afterCall buffer s) items)
+packedOf = packedBy (λ s. s) callAnswer afterCall
 
 -- A buffer that was `packets` at first: its packets before the place are `body`, and all others are as at first.
 pub record Holds (packets body : List ℕ) (buffer : Buffer) : Type 0 where
