@@ -7,8 +7,9 @@ use lib.IntN.{ℤ}
 use lib.ListN.{length}
 use Rattle.packets.specs.Ends.{Makes}
 use Rattle.packets.proofs.Ends.{ends-unique}
-use Rattle.runs.specs.Bodies.{Item, body, sequencesOf, AllValid, Begins, Buffer, afterCalls, packedOf, Holds}
+use Rattle.runs.specs.Bodies.{Item, body, sequencesOf, AllValid, AllValidIn, runEnds, Begins, Buffer, afterCalls, packedOf, Holds}
 use Rattle.runs.proofs.Bodies.{body-prefix, body-injective, calls-body}
+use Rattle.runs.proofs.Making.{body-made}
 use Rattle.byte_runs.specs.Bodies.{ByteBuffer, afterByteCalls, bytesPackedOf, HoldsBytes}
 use Rattle.byte_runs.proofs.Bodies.{byte-calls-body}
 use Rattle.dsqdata.specs.Header.{alphabetOf, bodyOf}
@@ -52,6 +53,14 @@ console-calls-leave-body bytes calls short = console-calls-body bytes short call
 pub one-list-of-ends : (alphabet : ℕ) (packets : List ℕ) (ends others : List ℤ) → Makes alphabet packets ends → Makes alphabet packets others → ends ≡ others
 one-list-of-ends = ends-unique
 
+-- The body of any list of valid sequences of one alphabet has exactly one: the ends of its runs.
+pub body-has-ends : (alphabet : ℕ) (sequences : List Item) → AllValidIn alphabet sequences
+    → Makes alphabet (body sequences) (runEnds sequences)
+    × ((others : List ℤ) → Makes alphabet (body sequences) others → others ≡ runEnds sequences)
+body-has-ends alphabet sequences v =
+    let made = body-made alphabet sequences v in
+    (made, λ others m. ends-unique alphabet (body sequences) others (runEnds sequences) m made)
+
 -- (d) A set passes exactly when its packet ends are such a list for its body and alphabet and it breaks no other rule.
 pub set-passes-only : (index metadata sequence : List ℕ) → setNumber (setCheck index metadata sequence) ≡ 0
     → Makes (alphabetOf index) (bodyOf sequence) (packetEnds index) × OtherRules index metadata sequence
@@ -62,7 +71,7 @@ pub set-passes : (index metadata sequence : List ℕ) → Makes (alphabetOf inde
 set-passes = Set.makes-passes
 
 -- (e) So an old index passes over a new body only if every run ends where it did: its packet ends are the one list that makes the new body well
--- formed in its alphabet, and those of every index of that alphabet that passes over that body.
+-- formed in its alphabet, and those of every index that passes over that body, whatever its alphabet.
 pub old-index-ends : (old metadata sequence : List ℕ) → setNumber (setCheck old metadata sequence) ≡ 0
     → (ends : List ℤ) → Makes (alphabetOf old) (bodyOf sequence) ends → packetEnds old ≡ ends
 old-index-ends = Set.passes-ends

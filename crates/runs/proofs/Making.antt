@@ -9,24 +9,13 @@ use lib.ListN.{length, take, drop, length-append, length-drop}
 use lib.Dec.{lt→ltb}
 use lib.Seq.{slice, take-at, drop-at, take-add, drop-drop, length-take-le}
 use lib.Signed.{_<ℤ_, ltZ-yes}
-use Rattle.residues.specs.Alphabets.{validCodes}
 use Rattle.packets.specs.Packing.{run}
 use Rattle.packets.specs.Runs.{wellFormed}
 use Rattle.packets.specs.Ends.{after, lastPlace, between, MakesAfter, Makes}
 use Rattle.packets.proofs.Packing.{run-some}
 use Rattle.packets.proofs.Round.{run-formed}
 use Rattle.packets.proofs.Ends.{after-last}
-use Rattle.runs.specs.Bodies.{Item, body}
-
--- Every sequence is valid in the one alphabet a.
-abbrev pub AllIn : ℕ → List Item → Type 0
-AllIn a [] = Unit
-AllIn a (s ∷ items) = (s .alphabet ≡ a) × (validCodes a (s .codes) ≡ true) × AllIn a items
-
--- The ends of the runs of a body that begins at a place.
-abbrev pub endsFrom : ℕ → List Item → List ℤ
-endsFrom place [] = []
-endsFrom place (s ∷ items) = lastPlace (place + length (run (s .alphabet) (s .codes))) ∷ endsFrom (place + length (run (s .alphabet) (s .codes))) items
+use Rattle.runs.specs.Bodies.{Item, body, AllValidIn, runEndsFrom, runEnds}
 
 rises : (k n : ℕ) → k < n → lastPlace k <ℤ lastPlace n
 rises k zero h = absurd (let z : ⊥ = omega arith in z)
@@ -37,7 +26,7 @@ middle : (k n : ℕ) (ps R t : List ℕ) → k ≤ length ps → length R ≡ n 
 middle k n ps R t h l e =
     ap (λ (x : List ℕ). drop k x) (take-add k n ps) ∙ (drop-at (take k ps) (take n (drop k ps)) k (length-take-le k ps h) ∙ (ap (λ (x : List ℕ). take n x) e ∙ take-at R t n l))
 
-makes-from : (a : ℕ) (ps : List ℕ) (k : ℕ) (items : List Item) → AllIn a items → k ≤ length ps → drop k ps ≡ body items → MakesAfter a ps (lastPlace k) (endsFrom k items)
+makes-from : (a : ℕ) (ps : List ℕ) (k : ℕ) (items : List Item) → AllValidIn a items → k ≤ length ps → drop k ps ≡ body items → MakesAfter a ps (lastPlace k) (runEndsFrom k items)
 makes-from a ps k [] v h e =
     let n : k ≡ length ps = omega (arith, length-drop k ps, ap length e) in
     ap lastPlace n
@@ -52,6 +41,6 @@ makes-from a ps k (s ∷ items) v h e =
     let formed : wellFormed a R ≡ true = rw (v .0) (run-formed a (s .codes) (v .1)) in
     (rises k (k + n) (omega arith), (rw there formed), makes-from a ps (k + n) items (v .2) len next)
 
--- A list of ends makes the body of valid sequences of one alphabet well formed.
-pub body-made : (a : ℕ) (items : List Item) → AllIn a items → Makes a (body items) (endsFrom 0 items)
+-- The ends of its runs make the body of valid sequences of one alphabet well formed.
+pub body-made : (a : ℕ) (items : List Item) → AllValidIn a items → Makes a (body items) (runEnds items)
 body-made a items v = makes-from a (body items) 0 items v (omega arith) refl

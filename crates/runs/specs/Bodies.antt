@@ -4,9 +4,11 @@ use mathlib.Core.Path.{_≡_}
 use mathlib.Core.Bool.{true}
 use mathlib.Core.List.{List, [], _∷_, _++_}
 use Prim.Native.Nat.{ℕ, _+_, _≤_}
+use lib.IntN.{ℤ}
 use lib.ListN.{length, drop}
 use Rattle.residues.specs.Alphabets.{validCodes}
 use Rattle.packets.specs.Packing.{run}
+use Rattle.packets.specs.Ends.{lastPlace}
 use Rattle.runs.specs.Answers.{packAnswer, packetsAfter}
 use Rattle.runs.specs.declared.PackAnswer.{PackAnswer}
 use Rattle.runs.specs.declared.PackAnswer.the-variants.{Packed, Refused}
@@ -30,6 +32,21 @@ sequencesOf (s ∷ items) = s .codes ∷ sequencesOf items
 abbrev pub AllValid : List Item → Type 0
 AllValid [] = Unit
 AllValid (s ∷ items) = (validCodes (s .alphabet) (s .codes) ≡ true) × AllValid items
+
+-- Every sequence is of the one alphabet, and its codes are valid in it.
+abbrev pub AllValidIn : ℕ → List Item → Type 0
+AllValidIn alphabet [] = Unit
+AllValidIn alphabet (s ∷ items) = (s .alphabet ≡ alphabet) × (validCodes alphabet (s .codes) ≡ true) × AllValidIn alphabet items
+
+-- The ends of the runs of a body: the place of each run's last packet, where the first run begins at `place`.
+abbrev pub runEndsFrom : ℕ → List Item → List ℤ
+runEndsFrom place [] = []
+runEndsFrom place (s ∷ items) =
+    let next = place + length (run (s .alphabet) (s .codes)) in
+    lastPlace next ∷ runEndsFrom next items
+
+abbrev pub runEnds : List Item → List ℤ
+runEnds items = runEndsFrom 0 items
 
 -- The first list begins the second.
 abbrev pub Begins {ℓ} : {A : Type ℓ} → List A → List A → Type ℓ
