@@ -1,18 +1,21 @@
 -- Packets as bytes at their places: read, and written one behind another. Assumes nothing.
-use mathlib.Core.Path.{_≡_, sym, ap, _∙_}
-use mathlib.Core.List.{List, [], _++_}
-use Prim.Native.Nat.{ℕ, _+_, _*_, _-_, _/_, _≤_, _<_}
+use mathlib.Core.Path.{_≡_, refl, sym, ap, _∙_}
+use mathlib.Core.Bool.{true}
+use mathlib.Core.List.{List, [], _∷_, _++_}
+use Prim.Native.Nat.{ℕ, zero, suc, _+_, _*_, _-_, _/_, _%_, _^_, _≤_, _<_}
 use native.Mathlib.Omega.{arith}
 use lib.ListN.{length, drop, getD, length-drop, length-append}
 use lib.Seq.{paste, length-paste}
+use Rattle.laws.specs.Digits.{allBelow}
 use Rattle.laws.specs.Writing.{writtenAt}
+use Rattle.laws.proofs.Digits.{below-none, below-cons, below-parts}
 use Rattle.laws.proofs.Writing.{paste-whole, paste-part, rest-part}
-use Rattle.fields.specs.Number.{little, unsignedAt}
+use Rattle.fields.specs.Number.{little, number, unsignedAt}
 use Rattle.fields.specs.Written.{littleBytes, numberPut}
 use Rattle.fields.proofs.Laws.{put-fits, unsigned-bytes, little-four}
 use Rattle.packets.specs.Positions.{byteOf}
-use Rattle.packets.specs.Bytes.{packetsOf}
-use Rattle.packets.proofs.Bytes.{packets-at}
+use Rattle.packets.specs.Bytes.{packetsOf, bytesOf}
+use Rattle.packets.proofs.Bytes.{packets-at, bytes-cons, bytes-none, packets-bytes}
 
 -- a place that fits is four times the packet's
 pub byte-is : (place bound : ℕ) → place < bound / 4 → bound ≤ 18446744073709551615 → byteOf 0 place ≡ 4 * place
@@ -66,3 +69,41 @@ module _ (S d : List ℕ) (P to : ℕ) (out : List ℕ) (low : P ≤ to) (so-far
       let n : to + 4 - P ≡ length S =
       omega (arith, length-drop (to - P) S, ap length rest, length-append (littleBytes 4 p) more, ap length e) in
       bytes-go ∙ rw n (paste-whole P S d)
+
+-- ---- whole bytes are those of the packets that they stand for
+
+-- a number's bytes, at any width
+little-back : (bytes : List ℕ) → allBelow 256 bytes ≡ true → littleBytes (length bytes) (number little bytes) ≡ bytes
+little-back [] v = refl
+little-back (x ∷ bytes) v =
+    let p = below-parts 256 x bytes v in
+    let here : (x + 256 * number little bytes) % 256 ≡ x = omega (arith, p .0) in
+    let behind : (x + 256 * number little bytes) / 256 ≡ number little bytes = omega (arith, p .0) in
+    rw (here, behind, little-back bytes (p .1))
+
+-- the packets of so many fours of bytes
+fours : (n : ℕ) (bytes : List ℕ) → length bytes ≡ 4 * n → allBelow 256 bytes ≡ true → (ps : List ℕ) × (allBelow (2 ^ 32) ps ≡ true) × (bytesOf ps ≡ bytes)
+fours zero [] e v = ([], below-none (2 ^ 32), bytes-none)
+fours zero (a ∷ rest) e v = absurd (let z : ⊥ = omega arith in z)
+fours (suc n) [] e v = absurd (let z : ⊥ = omega arith in z)
+fours (suc n) (a ∷ []) e v = absurd (let z : ⊥ = omega arith in z)
+fours (suc n) (a ∷ b ∷ []) e v = absurd (let z : ⊥ = omega arith in z)
+fours (suc n) (a ∷ b ∷ c ∷ []) e v = absurd (let z : ⊥ = omega arith in z)
+fours (suc n) (a ∷ b ∷ c ∷ d ∷ rest) e v =
+    let p = below-parts 256 a (b ∷ c ∷ d ∷ rest) v in
+    let q = below-parts 256 b (c ∷ d ∷ rest) (p .1) in
+    let r = below-parts 256 c (d ∷ rest) (q .1) in
+    let s = below-parts 256 d rest (r .1) in
+    let four = a ∷ b ∷ c ∷ d ∷ [] in
+    let w : allBelow 256 four ≡ true =
+    below-cons 256 a _ (p .0) (below-cons 256 b _ (q .0) (below-cons 256 c _ (r .0) (below-cons 256 d _ (s .0) (below-none 256)))) in
+    let t = fours n rest (omega arith) (s .1) in (
+      number little four ∷ t .0,
+      below-cons (2 ^ 32) (number little four) (t .0) (omega (arith, p .0, q .0, r .0, s .0)) (t .1),
+      bytes-cons (number little four) (t .0) ∙ rw (t .2) (ap (λ (l : List ℕ). l ++ rest) (little-back four w)),
+    )
+
+pub bytes-packets : (bytes : List ℕ) → length bytes % 4 ≡ 0 → allBelow 256 bytes ≡ true → bytesOf (packetsOf bytes) ≡ bytes
+bytes-packets bytes e v =
+    let t = fours (length bytes / 4) bytes (omega arith) v in
+    ap (λ (l : List ℕ). bytesOf (packetsOf l)) (sym (t .2)) ∙ (ap bytesOf (packets-bytes (t .0) (t .1)) ∙ t .2)

@@ -60,8 +60,9 @@ module _ (alphabet : ℕ) (codes buffer : List ℕ) (place room : ℕ) where
   pub packed-room : (n l : ℕ) → consolePack alphabet codes buffer place room ≡ P.Packed n l → roomFor 2 room ≡ true
   unfolding consolePack
   packed-room n l e =
-      hold-second (packRules alphabet codes (length buffer / 4) place) (resultsRule 2 room)
-      (not-refused P.Refused (P.Packed (length (run alphabet codes)) (length codes)) (P.Packed n l) (consolePackRules alphabet codes buffer place room) (packed-not n l) e) .0
+      let rules = consolePackRules alphabet codes buffer place room in
+      let all = not-refused P.Refused (P.Packed (length (run alphabet codes)) (length codes)) (P.Packed n l) rules (packed-not n l) e in
+      hold-second (packRules alphabet codes (length buffer / 4) place) (resultsRule 2 room) all .0
 
   -- the buffer after: with room as packing into bytes leaves it, and as it was on a refusal
   pub buffer-room : roomFor 2 room ≡ true → consoleBuffer alphabet codes buffer place room ≡ bytesAfter alphabet codes buffer place

@@ -1,7 +1,8 @@
--- Demand 2 for packing and unpacking. Assumes nothing.
+-- Demand 2 for packing and unpacking, over packets and over bytes. The round trips are proved once, for any
+-- calls that do what packing and unpacking do (`PackLaws`, `UnpackLaws`). Assumes nothing.
 use mathlib.Core.Path.{_≡_, refl, ap, _∙_}
 use mathlib.Core.Bool.{true}
-use mathlib.Core.List.{List, [], _∷_, _++_, append-assoc}
+use mathlib.Core.List.{List, _++_, append-assoc}
 use Prim.Native.Nat.{ℕ, _+_, _/_, _%_, _^_, _≤_}
 use native.Mathlib.Omega.{arith}
 use lib.ListN.{length, take, drop}
@@ -17,20 +18,16 @@ use Rattle.packets.proofs.Round.{run-formed, unpacked-run, run-below}
 use Rattle.packets.proofs.Shapes.{unpacked-valid}
 use Rattle.packets.proofs.Back.{amino-back}
 use Rattle.packets.proofs.Lengths.{run-most}
-use Rattle.packets.proofs.Rules.{rules-formed}
-use Rattle.packets.proofs.Bytes.{length-bytes, packets-bytes}
+use Rattle.packets.proofs.Bytes.{length-packets, length-bytes, packets-below, packets-bytes}
 use Rattle.packets.proofs.Packing.{run-some}
-use Rattle.runs.specs.Answers.{packAnswer, packNumber, packValues, unpackAnswer, unpackNumber, unpackValues}
-use Rattle.byte_runs.specs.Bytes.{packBytesAnswer, unpackBytesAnswer}
 use Rattle.runs.specs.Rules.{Packs, Unpacks}
-use Rattle.runs.specs.declared.PackAnswer.{PackAnswer}
-use Rattle.runs.specs.declared.PackAnswer.the-variants as Pack
-use Rattle.runs.specs.declared.UnpackAnswer.{UnpackAnswer}
-use Rattle.runs.specs.declared.UnpackAnswer.the-variants as Unpack
 use Rattle.runs.proofs.Answers.{MayPack, MayUnpack, pack-done, packed-may, packets-written, unpack-as, run-done, codes-written}
+use Rattle.runs.proofs.Rules.{rules-pack, run-must}
+use Rattle.byte_runs.specs.Rules.{UnpacksBytes}
 use Rattle.byte_runs.proofs.Answers.{bytes-written, unpack-bytes-as, codes-bytes-written}
-use Rattle.runs.proofs.Rules.{rules-pack, rules-unpack}
-use Rattle.demands.specs.Packets.{packetsPacked, bytesPacked, codesUnpacked, PacksAndUnpacks, PacksAndUnpacksBytes, UnpacksAndPacks}
+use Rattle.byte_runs.proofs.Stores.{bytes-packets}
+use Rattle.demands.specs.Packets.{PackCall, packCall, packBytesCall, UnpackCall, unpackCall, unpackBytesCall, PacksAs, UnpacksAs}
+use Rattle.demands.specs.Packets.{rangePacked, codesUnpacked, PacksAndUnpacks, UnpacksAndPacks, UnpacksAgain}
 
 -- ---- over the definitions
 
@@ -47,113 +44,186 @@ amino-packed-back packets b e = amino-back 3 packets refl b e
 pub residues-again : (alphabet : ℕ) (packets : List ℕ) → wellFormed alphabet packets ≡ true → unpacked (run alphabet (unpacked packets)) ≡ unpacked packets
 residues-again alphabet packets e = unpacked-run alphabet (unpacked packets) (unpacked-valid alphabet packets e)
 
--- ---- over the calls
+-- ---- over any calls
 
 -- what was written at a place stands there
 written-there : (place : ℕ) (new old : List ℕ) → place + length new ≤ length old → take (length new) (drop place (writtenAt place new old)) ≡ new
 written-there place new old h =
+    let rest = drop (place + length new) old in
     let l : length (take place old) ≡ place = length-take-le place old (omega arith) in
-    let d : drop place (writtenAt place new old) ≡ new ++ drop (place + length new) old =
-    ap (λ (x : List ℕ). drop place x) (append-assoc (take place old) new (drop (place + length new) old)) ∙ drop-at (take place old) (new ++ drop (place + length new) old) place l in
-    rw d (take-at new (drop (place + length new) old) (length new) refl)
+    let d : drop place (writtenAt place new old) ≡ new ++ rest =
+    ap (λ (x : List ℕ). drop place x) (append-assoc (take place old) new rest) ∙ drop-at (take place old) (new ++ rest) place l in
+    rw d (take-at new rest (length new) refl)
 
--- the number and the values of an answer
-module _ (n l : ℕ) where
-  pack-number : (x : PackAnswer) → x ≡ Pack.Packed n l → (packNumber x ≡ 0) × (packValues x ≡ n ∷ l ∷ [])
-  pack-number x e = rw e (refl, refl)
+pub may-of : (a : ℕ) (codes : List ℕ) (room place : ℕ) → Packs a codes room place → MayPack a codes room place
+may-of a codes room place r = packed-may a codes room place (length (run a codes)) (length codes) (rules-pack a codes room place r)
 
-  unpack-number : (x : UnpackAnswer) → x ≡ Unpack.Unpacked n l → (unpackNumber x ≡ 0) × (unpackValues x ≡ n ∷ l ∷ [])
-  unpack-number x e = rw e (refl, refl)
+-- A packing call that does what packing does, into one buffer with so many packets of room; `lent` are packets as the buffer holds them.
+pub record PackLaws (call : PackCall) (lent : List ℕ → List ℕ) (buffer : List ℕ) (room : ℕ) : Type 0 where
+  pub packs : (codes : List ℕ) (place : ℕ) → MayPack (call .alphabet) codes room place
+      → PacksAs call codes buffer place (length (run (call .alphabet) codes)) (lent (run (call .alphabet) codes))
+  pub there : (codes : List ℕ) (place : ℕ) → MayPack (call .alphabet) codes room place → rangePacked call codes buffer place ≡ lent (run (call .alphabet) codes)
+
+-- An unpacking call that does what unpacking does, on ranges of a length that is allowed.
+pub record UnpackLaws (alphabet : ℕ) (call : UnpackCall) (lent : List ℕ → List ℕ) (Allowed : List ℕ → Type 0) : Type 0 where
+  pub unpacks : (range out : List ℕ) → Allowed range → MayUnpack alphabet (call .packetsIn range) (length out)
+      → UnpacksAs call range out (length (call .packetsIn range)) (unpacked (call .packetsIn range))
+  pub allowed : (codes : List ℕ) → length codes ≤ 2147483647 → Allowed (lent (run alphabet codes))
+  pub readBack : (packets : List ℕ) → allBelow (2 ^ 32) packets ≡ true → call .packetsIn (lent packets) ≡ packets
+
+module _ (p : PackCall) (lent : List ℕ → List ℕ) (buffer : List ℕ) (room place : ℕ) (P : PackLaws p lent buffer room) where
+  abbrev a : ℕ
+  a = p .alphabet
+
+  -- codes packed and unpacked come back
+  module _ (u : UnpackCall) (Allowed : List ℕ → Type 0) (U : UnpackLaws a u lent Allowed) (codes out : List ℕ) where
+    pub packs-unpacks : MayPack a codes room place → length codes ≤ length out → PacksAndUnpacks p u codes buffer place out
+    packs-unpacks m h =
+        let L = lent (run a codes) in
+        let there = P .there codes place m in
+        let again = unpacked-run a codes (m .valid) in
+        let back = U .readBack (run a codes) (run-below a codes (m .valid)) in
+        let may : MayUnpack a (u .packetsIn L) (length out) =
+        record { known = m .known; formed = rw back (run-formed a codes (m .valid)); fits = rw (back, again) h } in
+        let x : UnpacksAs u L out (length (run a codes)) codes = rw (back, again) at (U .unpacks L out (U .allowed codes (m .small)) may) in
+        record { packs = rw there (P .packs codes place m); unpacks = rw there x }
+
+  -- what was unpacked stands at the start of the output
+  module _ (u : UnpackCall) (Allowed : List ℕ → Type 0) (U : UnpackLaws a u lent Allowed) (range out : List ℕ) (ok : Allowed range)
+      (m : MayUnpack a (u .packetsIn range) (length out)) (small : length (unpacked (u .packetsIn range)) ≤ 2147483647) where
+    abbrev residues : List ℕ
+    residues = unpacked (u .packetsIn range)
+
+    codes-there : codesUnpacked u range out ≡ residues
+    codes-there = rw (U .unpacks range out ok m .leaves) (written-there 0 residues out (omega (arith, m .fits)))
+
+    may-again : place + length (run a residues) ≤ room → MayPack a residues room place
+    may-again h = record { small = small; known = m .known; valid = unpacked-valid a (u .packetsIn range) (m .formed); fits = h }
+
+    -- a run that packs back to itself comes back
+    pub unpacks-packs : run a residues ≡ u .packetsIn range → lent (u .packetsIn range) ≡ range → place + length (u .packetsIn range) ≤ room
+        → UnpacksAndPacks u p range out buffer place
+    unpacks-packs back whole h =
+        let x : PacksAs p residues buffer place (length (u .packetsIn range)) range =
+        rw (back, whole) at (P .packs residues place (may-again (rw back h))) in
+        record { unpacks = U .unpacks range out ok m; packs = rw codes-there x }
+
+    -- the residues of any run come back
+    pub unpacks-again : (v : UnpackCall) (Allowed′ : List ℕ → Type 0) → UnpackLaws a v lent Allowed′ → (again : List ℕ) → place + length (run a residues) ≤ room
+        → length residues ≤ length again → UnpacksAgain u p v range out buffer place again
+    unpacks-again v Allowed′ W again h enough = record {
+      unpacks = U .unpacks range out ok m;
+      comesBack = rw codes-there (packs-unpacks v Allowed′ W residues again (may-again h) enough);
+    }
+
+-- ---- over `pack` and `unpack`
+
+pub pack-laws : (a : ℕ) (buffer : List ℕ) → PackLaws (packCall a) (λ ps. ps) buffer (length buffer)
+pack-laws a buffer = record {
+  packs = λ codes place m.
+      let e = pack-done a codes (length buffer) place m in
+      record { succeeds = rw e; returns = rw e; leaves = packets-written a codes buffer place (length (run a codes)) (length codes) e };
+  there = λ codes place m.
+      rw (packets-written a codes buffer place (length (run a codes)) (length codes) (pack-done a codes (length buffer) place m))
+      (written-there place (run a codes) buffer (m .fits));
+}
+
+abbrev pub FewPackets : List ℕ → Type 0
+FewPackets packets = length packets ≤ 536870912
+
+pub unpack-laws : (a : ℕ) → UnpackLaws a (unpackCall a) (λ ps. ps) FewPackets
+unpack-laws a = record {
+  unpacks = λ packets out few m.
+      let e = unpack-as a packets (length out) few ∙ run-done a packets (length out) m in
+      record { succeeds = rw e; returns = rw e; leaves = codes-written a packets out (length packets) (length (unpacked packets)) e };
+  allowed = λ codes small. omega (arith, run-most a codes);
+  readBack = λ packets b. refl;
+}
 
 -- Valid codes, packed into a buffer with room and unpacked into an output with room, come back.
-module _ (a : ℕ) (codes buffer : List ℕ) (place : ℕ) (out : List ℕ) (room : length codes ≤ length out) where
-  module _ (m : MayPack a codes (length buffer) place) where
-    again : unpacked (run a codes) ≡ codes
-    again = unpacked-run a codes (m .valid)
+pub pack-unpack : (a : ℕ) (codes buffer : List ℕ) (place : ℕ) (out : List ℕ) → length codes ≤ length out → Packs a codes (length buffer) place
+    → PacksAndUnpacks (packCall a) (unpackCall a) codes buffer place out
+pack-unpack a codes buffer place out h r =
+    packs-unpacks (packCall a) (λ ps. ps) buffer (length buffer) place (pack-laws a buffer) (unpackCall a) FewPackets (unpack-laws a) codes out
+    (may-of a codes (length buffer) place r) h
 
-    may : MayUnpack a (run a codes) (length out)
-    may = record { known = m .known; formed = run-formed a codes (m .valid); fits = rw again room }
+-- A well-formed amino run, unpacked and packed again into a buffer with room, comes back packet for packet.
+pub unpack-pack : (packets out buffer : List ℕ) (place : ℕ) → allBelow (2 ^ 32) packets ≡ true → Unpacks 3 packets (length out)
+    → length (unpacked packets) ≤ 2147483647 → place + length packets ≤ length buffer → UnpacksAndPacks (unpackCall 3) (packCall 3) packets out buffer place
+unpack-pack packets out buffer place b r small h =
+    let m = run-must 3 packets (length out) (r .run) in
+    unpacks-packs (packCall 3) (λ ps. ps) buffer (length buffer) place (pack-laws 3 buffer) (unpackCall 3) FewPackets (unpack-laws 3)
+    packets out (r .inputSize) m small (amino-packed-back packets b (m .formed)) refl h
 
-    packs-unpacks : PacksAndUnpacks a codes buffer place out
-    packs-unpacks =
-        let e = pack-done a codes (length buffer) place m in
-        let there : packetsPacked a codes buffer place ≡ run a codes =
-        rw (packets-written a codes buffer place (length (run a codes)) (length codes) e) (written-there place (run a codes) buffer (m .fits)) in
-        let small : length (run a codes) ≤ 536870912 = omega (arith, run-most a codes, m .small) in
-        let u : unpackAnswer a (run a codes) (length out) ≡ Unpack.Unpacked (length (run a codes)) (length codes) =
-        unpack-as a (run a codes) (length out) small ∙ (run-done a (run a codes) (length out) may ∙ rw again) in
-        let p = pack-number (length (run a codes)) (length codes) (packAnswer a codes (length buffer) place) e in
-        let q = unpack-number (length (run a codes)) (length codes) (unpackAnswer a (run a codes) (length out)) u in
-        record {
-          packs = p .0;
-          returns = p .1;
-          unpacks = rw there (q .0);
-          returnsSame = rw there (q .1);
-          codesBack = rw there (codes-written a (run a codes) out (length (run a codes)) (length codes) u ∙ rw again);
-        }
+-- The residues of any well-formed run, packed into a buffer with room and unpacked again, come back: nucleic runs too.
+pub unpack-again : (a : ℕ) (packets out buffer : List ℕ) (place : ℕ) (again : List ℕ) → Unpacks a packets (length out) → length (unpacked packets) ≤ 2147483647
+    → place + length (run a (unpacked packets)) ≤ length buffer → length (unpacked packets) ≤ length again
+    → UnpacksAgain (unpackCall a) (packCall a) (unpackCall a) packets out buffer place again
+unpack-again a packets out buffer place again r small h enough =
+    unpacks-again (packCall a) (λ ps. ps) buffer (length buffer) place (pack-laws a buffer) (unpackCall a) FewPackets (unpack-laws a)
+    packets out (r .inputSize) (run-must a packets (length out) (r .run)) small (unpackCall a) FewPackets (unpack-laws a) again h enough
 
-  pub pack-unpack : Packs a codes (length buffer) place → PacksAndUnpacks a codes buffer place out
-  pack-unpack r =
-      packs-unpacks (packed-may a codes (length buffer) place (length (run a codes)) (length codes) (rules-pack a codes (length buffer) place r))
+-- ---- over `pack_bytes` and `unpack_bytes`: a buffer's length is one that a 64-bit machine can count
 
--- The same over bytes.
-module _ (a : ℕ) (codes buffer : List ℕ) (place : ℕ) (out : List ℕ) (room : length codes ≤ length out) (short : length buffer ≤ 18446744073709551615) where
-  module _ (m : MayPack a codes (length buffer / 4) place) where
-    again-bytes : unpacked (run a codes) ≡ codes
-    again-bytes = unpacked-run a codes (m .valid)
+pub pack-bytes-laws : (a : ℕ) (buffer : List ℕ) → length buffer ≤ 18446744073709551615 → PackLaws (packBytesCall a) bytesOf buffer (length buffer / 4)
+pack-bytes-laws a buffer short = record {
+  packs = λ codes place m.
+      let e = pack-done a codes (length buffer / 4) place m in
+      record { succeeds = rw e; returns = rw e; leaves = bytes-written a codes buffer place (length (run a codes)) (length codes) e };
+  there = λ codes place m.
+      let R = run a codes in
+      let some = run-some a codes in
+      let lb = length-bytes R in
+      let fits : byteOf 0 place + length (bytesOf R) ≤ length buffer = omega (arith, m .fits) in
+      rw (bytes-written a codes buffer place (length R) (length codes) (pack-done a codes (length buffer / 4) place m), ← lb)
+      (written-there (byteOf 0 place) (bytesOf R) buffer fits);
+}
 
-    packs-unpacks-bytes : PacksAndUnpacksBytes a codes buffer place out
-    packs-unpacks-bytes =
-        let R = run a codes in
-        let B = bytesOf R in
-        let e = pack-done a codes (length buffer / 4) place m in
-        let lb = length-bytes R in
-        let some = run-some a codes in
-        let at : byteOf 0 place + length B ≤ length buffer = omega (arith, m .fits) in
-        let there : bytesPacked a codes buffer place ≡ B =
-        rw (bytes-written a codes buffer place (length R) (length codes) e, ← lb) (written-there (byteOf 0 place) B buffer at) in
-        let back : packetsOf B ≡ R = packets-bytes R (run-below a codes (m .valid)) in
-        let small : length B ≤ 2147483647 = omega (arith, run-most a codes, m .small) in
-        let whole : length B % 4 ≡ 0 = omega arith in
-        let may : MayUnpack a (packetsOf B) (length out) =
-        record { known = m .known; formed = rw back (run-formed a codes (m .valid)); fits = rw (back, again-bytes) room } in
-        let u : unpackBytesAnswer a B (length out) ≡ Unpack.Unpacked (length R) (length codes) =
-        unpack-bytes-as a B (length out) small whole ∙ (run-done a (packetsOf B) (length out) may ∙ rw (back, again-bytes)) in
-        let p = pack-number (length R) (length codes) (packBytesAnswer a codes buffer place) e in
-        let q = unpack-number (length R) (length codes) (unpackBytesAnswer a B (length out)) u in
-        record {
-          packs = p .0;
-          returns = p .1;
-          unpacks = rw there (q .0);
-          returnsSame = rw there (q .1);
-          codesBack = rw there (codes-bytes-written a B out (length R) (length codes) u ∙ rw (back, again-bytes));
-        }
+abbrev pub FewBytes : List ℕ → Type 0
+FewBytes bytes = (length bytes ≤ 2147483647) × (length bytes % 4 ≡ 0)
 
-  pub pack-unpack-bytes : Packs a codes (length buffer / 4) place → PacksAndUnpacksBytes a codes buffer place out
-  pack-unpack-bytes r =
-      packs-unpacks-bytes (packed-may a codes (length buffer / 4) place (length (run a codes)) (length codes) (rules-pack a codes (length buffer / 4) place r))
+pub unpack-bytes-laws : (a : ℕ) → UnpackLaws a (unpackBytesCall a) bytesOf FewBytes
+unpack-bytes-laws a = record {
+  unpacks = λ bytes out few m.
+      let ps = packetsOf bytes in
+      let e = unpack-bytes-as a bytes (length out) (few .0) (few .1) ∙ run-done a ps (length out) m in
+      record { succeeds = rw e; returns = rw e; leaves = codes-bytes-written a bytes out (length ps) (length (unpacked ps)) e };
+  allowed = λ codes small.
+      let lb = length-bytes (run a codes) in
+      (omega (arith, run-most a codes), omega arith);
+  readBack = packets-bytes;
+}
 
--- A well-formed amino run, unpacked and packed again into a buffer with room, comes back.
-module _ (packets out buffer : List ℕ) (place : ℕ) (below : allBelow (2 ^ 32) packets ≡ true) (r : Unpacks 3 packets (length out))
-    (small : length (unpacked packets) ≤ 2147483647) (room : place + length packets ≤ length buffer) where
-  pub unpack-pack : UnpacksAndPacks 3 packets out buffer place
-  unpack-pack =
-      let U = unpacked packets in
-      let formed = rules-formed 3 packets (r .run .wellFormed) in
-      let u = rules-unpack 3 packets (length out) r in
-      let fits = r .run .fits in
-      let there : codesUnpacked 3 packets out ≡ U =
-      rw (codes-written 3 packets out (length packets) (length U) u) (written-there 0 U out (omega arith)) in
-      let back : run 3 U ≡ packets = amino-packed-back packets below formed in
-      let may : MayPack 3 U (length buffer) place =
-      record { small = small; known = refl; valid = unpacked-valid 3 packets formed; fits = rw back room } in
-      let e : packAnswer 3 U (length buffer) place ≡ Pack.Packed (length packets) (length U) = pack-done 3 U (length buffer) place may ∙ rw back in
-      let p = unpack-number (length packets) (length U) (unpackAnswer 3 packets (length out)) u in
-      let q = pack-number (length packets) (length U) (packAnswer 3 U (length buffer) place) e in
-      record {
-        unpacks = p .0;
-        returns = p .1;
-        packs = rw there (q .0);
-        returnsSame = rw there (q .1);
-        packetsBack = rw there (packets-written 3 U buffer place (length packets) (length U) e ∙ rw back);
-      }
+-- Valid codes come back.
+pub pack-unpack-bytes : (a : ℕ) (codes buffer : List ℕ) (place : ℕ) (out : List ℕ) → length codes ≤ length out → length buffer ≤ 18446744073709551615
+    → Packs a codes (length buffer / 4) place → PacksAndUnpacks (packBytesCall a) (unpackBytesCall a) codes buffer place out
+pack-unpack-bytes a codes buffer place out h short r =
+    packs-unpacks (packBytesCall a) bytesOf buffer (length buffer / 4) place (pack-bytes-laws a buffer short) (unpackBytesCall a) FewBytes (unpack-bytes-laws a)
+    codes out (may-of a codes (length buffer / 4) place r) h
+
+-- whole bytes of an amino run: the run packs back to itself, and to these bytes
+pub amino-bytes : (bytes : List ℕ) (room : ℕ) → allBelow 256 bytes ≡ true → UnpacksBytes 3 bytes room
+    → (run 3 (unpacked (packetsOf bytes)) ≡ packetsOf bytes) × (bytesOf (packetsOf bytes) ≡ bytes)
+amino-bytes bytes room b r = (
+  amino-packed-back (packetsOf bytes) (packets-below bytes b) (run-must 3 (packetsOf bytes) room (r .run) .formed),
+  bytes-packets bytes (r .whole) b,
+)
+
+-- A well-formed amino run comes back byte for byte.
+pub unpack-pack-bytes : (bytes out buffer : List ℕ) (place : ℕ) → allBelow 256 bytes ≡ true → UnpacksBytes 3 bytes (length out)
+    → length (unpacked (packetsOf bytes)) ≤ 2147483647 → length buffer ≤ 18446744073709551615 → place + length bytes / 4 ≤ length buffer / 4
+    → UnpacksAndPacks (unpackBytesCall 3) (packBytesCall 3) bytes out buffer place
+unpack-pack-bytes bytes out buffer place b r small short h =
+    let k = amino-bytes bytes (length out) b r in
+    unpacks-packs (packBytesCall 3) bytesOf buffer (length buffer / 4) place (pack-bytes-laws 3 buffer short) (unpackBytesCall 3) FewBytes (unpack-bytes-laws 3)
+    bytes out (r .inputSize, r .whole) (run-must 3 (packetsOf bytes) (length out) (r .run)) small (k .0) (k .1) (rw (length-packets bytes) h)
+
+-- The residues of any well-formed run come back.
+pub unpack-again-bytes : (a : ℕ) (bytes out buffer : List ℕ) (place : ℕ) (again : List ℕ) → UnpacksBytes a bytes (length out)
+    → length (unpacked (packetsOf bytes)) ≤ 2147483647 → length buffer ≤ 18446744073709551615
+    → place + length (run a (unpacked (packetsOf bytes))) ≤ length buffer / 4 → length (unpacked (packetsOf bytes)) ≤ length again
+    → UnpacksAgain (unpackBytesCall a) (packBytesCall a) (unpackBytesCall a) bytes out buffer place again
+unpack-again-bytes a bytes out buffer place again r small short h enough =
+    unpacks-again (packBytesCall a) bytesOf buffer (length buffer / 4) place (pack-bytes-laws a buffer short) (unpackBytesCall a) FewBytes (unpack-bytes-laws a)
+    bytes out (r .inputSize, r .whole) (run-must a (packetsOf bytes) (length out) (r .run)) small (unpackBytesCall a) FewBytes (unpack-bytes-laws a)
+    again h enough

@@ -16,7 +16,8 @@ use Rattle.packets.proofs.Packing.{run-some}
 use Rattle.packets.proofs.Round.{run-formed, unpacked-run, formed-well}
 use Rattle.packets.proofs.Ends.{cut}
 use Rattle.runs.specs.Answers.{packAnswer}
-use Rattle.runs.specs.Bodies.{Item, body, sequencesOf, AllValid, Begins, ifTaken, afterEach, packedBy, Buffer, callAnswer, afterCall, afterCalls, packedOf, Holds}
+use Rattle.runs.specs.Bodies.{Item, body, sequencesOf, AllValid, Begins, ifTaken, afterEach, packedBy}
+use Rattle.runs.specs.Bodies.{Buffer, callAnswer, afterCall, afterCalls, packedOf, Holds}
 use Rattle.runs.specs.declared.PackAnswer.{PackAnswer}
 use Rattle.runs.specs.declared.PackAnswer.the-variants.{Packed, Refused}
 use Rattle.runs.proofs.Answers.{packed-may, pack-done, packets-kept, packets-written}
@@ -68,7 +69,7 @@ packed-means a cs room place n l e =
     let g : n ≡ length (run a cs) = cc in
     (g, m .fits)
 
--- A list written behind a beginning of a range: first the whole, then what is as at first.
+-- A range that begins with `start` and goes on as the range `first`: a list written behind `start` makes it longer by that list.
 pub written-behind : (first start new range : List ℕ) → range ≡ start ++ drop (length start) first
     → writtenAt (length start) new range ≡ (start ++ new) ++ drop (length start + length new) first
 written-behind first start new range e =
@@ -77,7 +78,7 @@ written-behind first start new range e =
     rw e (drop-append-add start (drop (length start) first) (length new) ∙ drop-drop (length new) (length start) first) in
     rw (t, d)
 
--- its length stays
+-- such a range is as long as `first`
 pub length-behind : (first start range : List ℕ) → range ≡ start ++ drop (length start) first → length start ≤ length first → length range ≡ length first
 length-behind first start range e h =
     ap length e ∙ (length-append start (drop (length start) first) ∙ omega (arith, length-drop (length start) first))

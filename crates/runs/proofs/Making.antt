@@ -4,14 +4,13 @@ use mathlib.Core.Bool.{true}
 use mathlib.Core.List.{List, [], _∷_, _++_}
 use Prim.Native.Nat.{ℕ, zero, suc, _+_, _≤_, _<_}
 use native.Mathlib.Omega.{arith}
-use lib.IntN.{ℤ, pos, negsuc}
 use lib.ListN.{length, take, drop, length-append, length-drop}
 use lib.Dec.{lt→ltb}
 use lib.Seq.{slice, take-at, drop-at, take-add, drop-drop, length-take-le}
 use lib.Signed.{_<ℤ_, ltZ-yes}
 use Rattle.packets.specs.Packing.{run}
 use Rattle.packets.specs.Runs.{wellFormed}
-use Rattle.packets.specs.Ends.{after, lastPlace, between, MakesAfter, Makes}
+use Rattle.packets.specs.Ends.{lastPlace, between, MakesAfter, Makes}
 use Rattle.packets.proofs.Packing.{run-some}
 use Rattle.packets.proofs.Round.{run-formed}
 use Rattle.packets.proofs.Ends.{after-last}
@@ -26,7 +25,8 @@ middle : (k n : ℕ) (ps R t : List ℕ) → k ≤ length ps → length R ≡ n 
 middle k n ps R t h l e =
     ap (λ (x : List ℕ). drop k x) (take-add k n ps) ∙ (drop-at (take k ps) (take n (drop k ps)) k (length-take-le k ps h) ∙ (ap (λ (x : List ℕ). take n x) e ∙ take-at R t n l))
 
-makes-from : (a : ℕ) (ps : List ℕ) (k : ℕ) (items : List Item) → AllValidIn a items → k ≤ length ps → drop k ps ≡ body items → MakesAfter a ps (lastPlace k) (runEndsFrom k items)
+makes-from : (a : ℕ) (ps : List ℕ) (k : ℕ) (items : List Item) → AllValidIn a items → k ≤ length ps → drop k ps ≡ body items
+    → MakesAfter a ps (lastPlace k) (runEndsFrom k items)
 makes-from a ps k [] v h e =
     let n : k ≡ length ps = omega (arith, length-drop k ps, ap length e) in
     ap lastPlace n
