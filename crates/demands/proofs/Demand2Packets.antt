@@ -1,4 +1,4 @@
--- Demand 2 for packing and unpacking, over packets and over bytes. The round trips are proved once, for any
+-- Demand 2 for packing and unpacking, over packets and over bytes; the console's calls are in Demand2Console. The round trips are proved once, for any
 -- calls that do what packing and unpacking do (`PackLaws`, `UnpackLaws`). Assumes nothing.
 use mathlib.Core.Path.{_≡_, refl, ap, _∙_}
 use mathlib.Core.Bool.{true}

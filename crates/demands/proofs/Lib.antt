@@ -4,6 +4,7 @@ pub mod Printed
 pub mod LargeFirst
 pub mod Table
 pub mod Demand2Packets
+pub mod Demand2Console
 pub mod Demand3
 pub mod Given
 pub mod Demand2
