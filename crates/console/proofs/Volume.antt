@@ -5,14 +5,17 @@ use mathlib.Core.List.{List}
 use Prim.Native.Nat.{ℕ}
 use native.Mathlib.Omega.{arith}
 use lib.ListN.{length}
+use Rattle.laws.proofs.Rules.{hold-second, last-holds}
 use Rattle.answers.specs.Numbers.{numberOf}
 use Rattle.answers.specs.declared.Refusal.{Refusal}
+use Rattle.answers.specs.declared.Refusal.the-variants.{NoRoom}
+use Rattle.answers.proofs.Numbers.{zero-passes}
 use Rattle.volume.specs.Volume.{volumeRules, volumeRecord, recordValues, volumeAnswer, volumeNumber, volumeValues}
 use Rattle.volume.specs.declared.VolumeRecord.{VolumeRecord}
 use Rattle.volume.specs.declared.VolumeAnswer.{VolumeAnswer}
 use Rattle.volume.specs.declared.VolumeAnswer.the-variants.{Passed, Refused}
 use Rattle.console.specs.Results.{roomFor, resultsPut}
-use Rattle.console.specs.Calls.{consoleVolume, volumeResults}
+use Rattle.console.specs.Calls.{resultsRule, consoleVolumeRules, consoleVolume, volumeResults}
 use Rattle.console.proofs.Told.{Answers, told-refused, told-short, told-passed}
 
 answers : Answers VolumeAnswer Refused volumeNumber volumeValues
@@ -43,3 +46,16 @@ module _ (index sequence header results : List ℕ) where
   unfolding consoleVolume volumeAnswer
   volume-passed v told room h e =
       told-passed Refused volumeNumber volumeValues answers (Passed (volumeRecord index)) (volumeRules index sequence header) 8 results (Passed v) told room h refl e
+
+-- with room the console's check answers as the volume check does
+pub volume-room : (index sequence header : List ℕ) (room : ℕ) → roomFor 8 room ≡ true
+    → consoleVolume index sequence header room ≡ volumeAnswer index sequence header
+unfolding consoleVolume volumeAnswer
+volume-room index sequence header room h = last-holds Refused (Passed (volumeRecord index)) (volumeRules index sequence header) (roomFor 8 room) NoRoom h
+
+-- where it answers 0 the results had room
+pub zero-room : (index sequence header : List ℕ) (room : ℕ) → volumeNumber (consoleVolume index sequence header room) ≡ 0 → roomFor 8 room ≡ true
+unfolding consoleVolume
+zero-room index sequence header room z =
+    hold-second (volumeRules index sequence header) (resultsRule 8 room)
+    (zero-passes Refused (Passed (volumeRecord index)) volumeNumber (λ r. refl) (consoleVolumeRules index sequence header room) z .0) .0

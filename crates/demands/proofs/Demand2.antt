@@ -1,11 +1,13 @@
 -- Demand 2 for volumes, sets, header records and sequences: a check passes, and a sequence decodes, exactly when document 01's rules hold; what decoding
--- can answer for a sequence of a volume that passes, and what it gives. Packing and unpacking are in Demand2Packets. Assumes nothing.
+-- can answer for a sequence of a volume that passes, and what it gives. Packing and unpacking are in Demand2Packets and Demand2Console. Assumes nothing.
 use mathlib.Core.Path.{_≡_, refl, ap}
 use mathlib.Core.List.{List, [], _∷_}
 use mathlib.Core.Logic.{_⊎_}
 use Prim.Native.Nat.{ℕ, _+_, _-_, _/_, _%_, _^_, _≤_, _<_}
 use lib.IntN.{pos}
 use lib.ListN.{length, getD}
+use borrow.Author.Tests.{le-leb, leb-true}
+use Rattle.laws.specs.Writing.{writtenAt}
 use Rattle.answers.specs.declared.Checked.the-variants as Check
 use Rattle.residues.specs.Tables.{ambiguityCode, proteinCode}
 use Rattle.volume.specs.Index.{statedType, sequences}
@@ -27,6 +29,10 @@ use Rattle.dsqdata.proofs.SetRules.{zero-rules, rules-zero}
 use Rattle.headers.specs.Record.{checkRecord}
 use Rattle.headers.specs.Statement.{GoodRecord}
 use Rattle.headers.proofs.Record.{passes-good, good-passes}
+use Rattle.console.specs.Results.{resultBytes}
+use Rattle.console.specs.Calls.{consoleVolume, volumeResults}
+use Rattle.console.proofs.Values.{put-room}
+use Rattle.console.proofs.Volume as Volume
 use Rattle.demands.proofs.Given as Given
 
 -- ---- volumes
@@ -40,6 +46,22 @@ module _ (index sequence header : List ℕ) where
   -- A volume of which they hold passes.
   pub volume-passes : VolumeHolds index sequence header → volumeNumber (volumeAnswer index sequence header) ≡ 0
   volume-passes = Exact.rules-zero index sequence header
+
+  -- The console's check passes only volumes of which they hold, with a results range of at least 64 bytes, and leaves their record there as eight-byte
+  -- little-endian numbers; and it passes those.
+  module _ (results : List ℕ) where
+    pub gull-volume-passes-only : volumeNumber (consoleVolume index sequence header (length results)) ≡ 0
+        → VolumeHolds index sequence header × (64 ≤ length results)
+        × (volumeResults (consoleVolume index sequence header (length results)) results ≡ writtenAt 0 (resultBytes (recordValues (volumeRecord index))) results)
+    gull-volume-passes-only z =
+        let fits = Volume.zero-room index sequence header (length results) z in
+        let same = Volume.volume-room index sequence header (length results) fits in
+        let enough = leb-true 64 (length results) fits in
+        let p = volume-passes-only (rw same at z) in
+        (p .0, enough, rw (same, p .1) (put-room (recordValues (volumeRecord index)) results enough))
+
+    pub gull-volume-passes : VolumeHolds index sequence header → 64 ≤ length results → volumeNumber (consoleVolume index sequence header (length results)) ≡ 0
+    gull-volume-passes h enough = rw (Volume.volume-room index sequence header (length results) (le-leb 64 (length results) enough)) (volume-passes h)
 
 -- ---- sets
 
