@@ -69,7 +69,7 @@ packed-means a cs room place n l e =
     let g : n ≡ length (run a cs) = cc in
     (g, m .fits)
 
--- A range that begins with `start` and goes on as the range `first`: a list written behind `start` makes it longer by that list.
+-- A range begins with `start` and goes on as the range `first`. With a list written behind `start` it begins with both and goes on as `first`.
 pub written-behind : (first start new range : List ℕ) → range ≡ start ++ drop (length start) first
     → writtenAt (length start) new range ≡ (start ++ new) ++ drop (length start + length new) first
 written-behind first start new range e =
