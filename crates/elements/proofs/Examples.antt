@@ -10,21 +10,21 @@ use Rattle.elements.specs.Parts.{partAt, integerAllowed, integerPart, lo
 use Rattle.elements.specs.Reading.{opens, closes, tooDeep, startOf, listEnd, read}
 
 -- n lists within one another
-nested : ℕ → List ℕ → List ℕ
+abbrev pub nested : ℕ → List ℕ → List ℕ
 nested zero inner = inner
 nested (suc n) inner = (48 ∷ 128 ∷ nested n inner) ++ (0 ∷ 0 ∷ [])
 
 -- depth 16 passes
 pub sixteen : read 16 F.Any (nested 15 (2 ∷ 1 ∷ 0 ∷ [])) 0 ≡ End 63
-unfolding nested read startOf listEnd integerPart integerAllowed textPart longPart partAt value opens closes tooDeep
+unfolding read startOf listEnd integerPart integerAllowed textPart longPart partAt value opens closes tooDeep
 sixteen = refl
 
 -- 17 is 21
 pub seventeen : read 16 F.Any (nested 16 (2 ∷ [])) 0 ≡ Refused TooDeep
-unfolding nested read startOf listEnd integerPart integerAllowed textPart longPart partAt value opens closes tooDeep
+unfolding read startOf listEnd integerPart integerAllowed textPart longPart partAt value opens closes tooDeep
 seventeen = refl
 
 -- another wrong byte there is 20
 pub wrong-byte : read 16 F.Any (nested 16 (5 ∷ [])) 0 ≡ Refused BadHeader
-unfolding nested read startOf listEnd integerPart integerAllowed textPart longPart partAt value opens closes tooDeep
+unfolding read startOf listEnd integerPart integerAllowed textPart longPart partAt value opens closes tooDeep
 wrong-byte = refl

@@ -174,9 +174,11 @@ module _ (index sequence : List ℕ) (i room : ℕ) where
 
   parts-decode : DecodeParts → AllHold (decodeRules index sequence i room)
   unfolding decodeRules
-  parts-decode p =
-      (p .sequenceFits, hold-append (readRules index) (ownRules index sequence i room) (p .indexFits, p .indexHolds)
-      (p .below, hold-append (sequenceRules index sequence i) (roomRules (sequenceLength index sequence i) room) (p .ownHold) (p .fits, tt)))
+  parts-decode p = (
+    p .sequenceFits,
+    hold-append (readRules index) (ownRules index sequence i room) (p .indexFits, p .indexHolds)
+        (p .below, hold-append (sequenceRules index sequence i) (roomRules (sequenceLength index sequence i) room) (p .ownHold) (p .fits, tt)),
+  )
 
   -- the rules that go by the type
   abbrev ownBy : Bool → Type 0
