@@ -15,6 +15,7 @@ use Rattle.volume.specs.Tables.{sequenceStart, proteinLength, dnaEnd, dnaLength
 use Rattle.volume.specs.Volume.{volumeRecord, volumeAnswer, volumeNumber, volumeValues, recordValues}
 use Rattle.volume.specs.Holds.{VolumeHolds}
 use Rattle.volume.proofs.Exact as Exact
+use Rattle.volume.proofs.HeaderFile.{header-length-alone}
 use Rattle.sequence.specs.Checked.{OnlyResidues}
 use Rattle.sequence.specs.Corrections.{correctionOf, correctionAt}
 use Rattle.sequence.specs.Sequence.{rangeEnd, decodeAnswer, decodeOutput, decodeNumber, decodeValues}
@@ -62,6 +63,12 @@ module _ (index sequence header : List ℕ) where
 
     pub gull-volume-passes : VolumeHolds index sequence header → 64 ≤ length results → volumeNumber (consoleVolume index sequence header (length results)) ≡ 0
     gull-volume-passes h enough = rw (Volume.volume-room index sequence header (length results) (le-leb 64 (length results) enough)) (volume-passes h)
+
+    -- Of the header file it asks the length alone: with another of the same length it answers the same.
+    pub gull-volume-header-length : (other : List ℕ) → length header ≡ length other
+        → consoleVolume index sequence header (length results) ≡ consoleVolume index sequence other (length results)
+    unfolding consoleVolume
+    gull-volume-header-length other e = rw (header-length-alone index sequence header other e)
 
 -- ---- sets
 

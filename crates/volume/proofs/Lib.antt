@@ -3,3 +3,4 @@ pub mod Facts
 pub mod Exact
 pub mod Reading
 pub mod Natural
+pub mod HeaderFile
