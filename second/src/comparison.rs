@@ -15,7 +15,7 @@ const BATCH: usize = 250;
 /// All lines that a program wrote for a stream, and what else is known of its end.
 struct Reply {
     lines: Vec<String>,
-    was_killed: bool,
+    ended_well: bool,
     end: String,
 }
 
@@ -44,7 +44,7 @@ pub fn knows(program: &Path, case: &Case) -> Result<bool, String> {
     Ok(reply.lines.first().is_some_and(|line| line != "unknown"))
 }
 
-/// Counts every line of a batch; a missing one is a difference, and so is one too many.
+/// Counts every line of a batch; a missing one is a difference, and so is one too many, and so is an exit status other than 0.
 fn judge(outcome: &mut Outcome, batch: &[Case], expected: &[String], reply: &Reply) {
     for (k, (case, expected)) in batch.iter().zip(expected).enumerate() {
         let found = match reply.lines.get(k) {
@@ -67,9 +67,9 @@ fn judge(outcome: &mut Outcome, batch: &[Case], expected: &[String], reply: &Rep
         let case = batch[batch.len() - 1].clone();
         outcome.differences.push(Difference { case, expected: "the end".to_string(), found });
     }
-    if reply.was_killed {
+    if !reply.ended_well {
         let case = batch[batch.len() - 1].clone();
-        let expected = "an end by itself".to_string();
+        let expected = "an end with status 0".to_string();
         outcome.differences.push(Difference { case, expected, found: reply.end.clone() });
     }
 }
@@ -101,7 +101,7 @@ fn run(program: &Path, stream: Vec<u8>) -> Result<Reply, String> {
     let status = child.wait().map_err(|error| say("cannot wait for it", error))?;
     let lines = lines_in(&String::from_utf8_lossy(&text));
     let end = format!("{status}, its error text: {errors:?}");
-    Ok(Reply { lines, was_killed: status.code().is_none(), end })
+    Ok(Reply { lines, ended_well: status.success(), end })
 }
 
 /// The lines of a text. A last one without its line feed is kept, and marked.

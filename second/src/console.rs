@@ -62,3 +62,17 @@ pub fn console_unpack(alphabet: i128, packets: &[u8], output: &mut [u8], results
 pub fn packets_of_bytes(bytes: &[u8]) -> Vec<u32> {
     bytes.chunks_exact(4).map(|four| little_unsigned(four) as u32).collect()
 }
+
+/// The bytes of one run of codes, with all the room it needs.
+pub fn packed(alphabet: i128, codes: &[u8]) -> Answer<Vec<u8>> {
+    let run = run_for(alphabet, codes, 0, codes.len() as i128 + 1)?;
+    Ok(run.iter().flat_map(|packet| little_bytes(*packet as i128, 4)).collect())
+}
+
+/// The codes of one run of bytes, with all the room it needs.
+pub fn unpacked(alphabet: i128, packets: &[u8]) -> Answer<Vec<u8>> {
+    ask_sizes(&[packets])?;
+    ask(packets.len() as i128 % 4 == 0, ENDS_TOO_EARLY)?;
+    let alphabet = Alphabet::of_number(alphabet)?;
+    residues_for(alphabet, &packets_of_bytes(packets), 15 * packets.len() as i128)
+}

@@ -51,6 +51,14 @@ fn it_says_when_the_program_ends_early() {
 }
 
 #[test]
+fn it_says_when_the_program_ends_with_another_status() {
+    let cases = cases(PACK, 1, 0, &common::samples()).take(100);
+    let outcome = compare(&script("other-status", "--status 3"), cases, |_| {}).unwrap();
+    assert_eq!(outcome.differences.len(), 1);
+    assert_eq!(outcome.differences[0].expected, "an end with status 0");
+}
+
+#[test]
 fn it_says_when_the_program_cannot_start() {
     let cases = cases(PACK, 1, 0, &common::samples()).take(1);
     let answer = compare(Path::new("no-such-program"), cases, |_| {});

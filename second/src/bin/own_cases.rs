@@ -1,5 +1,5 @@
-//! `own-cases [--wrong K] [--stop K]`: answers a stream of CASES.md from this program's own reading, to try
-//! `compare` itself. `--wrong K` spoils line K, `--stop K` ends before line K.
+//! `own-cases [--wrong K] [--stop K] [--status K]`: answers a stream of CASES.md from this program's own reading, to try
+//! `compare` itself. `--wrong K` spoils line K, `--stop K` ends before line K, `--status K` ends with that exit status.
 
 use std::io::{Read, Write};
 
@@ -24,5 +24,6 @@ fn main() -> std::io::Result<()> {
     if !lines.is_empty() {
         text.push('\n');
     }
-    std::io::stdout().write_all(text.as_bytes())
+    std::io::stdout().write_all(text.as_bytes())?;
+    std::process::exit(option("--status").unwrap_or(0) as i32)
 }

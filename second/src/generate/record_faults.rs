@@ -76,6 +76,7 @@ pub fn wrong_shapes(rng: &mut Rng) -> Vec<Vec<Node>> {
         vec![text(rng)],
         vec![Node::List(vec![])],
         vec![choice(later, integer(rng))],
+        vec![choice(0xA6, Node::List(vec![]))],
         vec![choice(0xA0, text(rng)), choice(0xA0, text(rng))],
         vec![choice(0xA2, integer(rng)), choice(0xA2, integer(rng))],
         vec![choice(0xA2, integer(rng)), choice(0xA0, text(rng))],

@@ -275,6 +275,7 @@ fn field_tags() -> Vec<Rule<Parts>> {
             &[("none", vec![]), ("all six", of(&[0xA0, 0xA1, 0xA2, 0xA3, 0xA4, 0xA5])), ("A5", of(&[0xA5]))],
             &[
                 ("A6", vec![choice(0xA6, integer())]),
+                ("A6 with an empty list", vec![choice(0xA6, Node::List(vec![]))]),
                 ("B3", of(&[0xB3])),
                 ("an integer", vec![integer()]),
                 ("a text", vec![text()]),
