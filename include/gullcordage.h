@@ -1,7 +1,9 @@
 /* Gullcordage: checks BLAST version 4 volumes, packs and unpacks Easel dsqdata packets.
  *
- * This header is the manual of the static library libgullcordage.a. Link with
+ * This header is the manual of the static library libgullcordage.a, for Linux on x86-64. Link with
  *     cc program.c libgullcordage.a
+ * or, where it is installed,
+ *     cc program.c $(pkg-config --cflags --libs gullcordage)
  *
  * Every call answers whatever bytes and numbers it is given, and ends. It returns one of the numbers below: 0 on success, else the
  * first rule that is broken, in the order of the project's rule book. On every refusal all ranges are as they were.
@@ -23,6 +25,13 @@
 extern "C" {
 #endif
 
+/* The version of this header and of the library and the programs beside it. */
+#define GULL_VERSION_MAJOR 0
+#define GULL_VERSION_MINOR 1
+#define GULL_VERSION_PATCH 0
+#define GULL_VERSION "0.1.0"
+
+/* Answers. */
 enum {
     GULL_OK = 0,
     GULL_TOO_SHORT = 1,         /* a field, table or file ends too early, or packets are not a multiple of 4 bytes */
@@ -46,6 +55,11 @@ enum {
 /* Alphabets. */
 enum { GULL_RNA = 1, GULL_DNA = 2, GULL_AMINO = 3 };
 
+/* The residue of each code, as Easel has them: code k is the letter at place k, the first at 0. RNA and DNA have the same 16 codes (code 3
+ * is T in DNA and U in RNA), amino has 28. Other codes are not valid. */
+#define GULL_NUCLEIC_LETTERS "ACGT-RYMKSWHBVDN"
+#define GULL_AMINO_LETTERS "ACDEFGHIKLMNPQRSTVWY-BJZOUX*"
+
 /* The bytes that the results of each call take. */
 #define GULL_CHECK_VOLUME_RESULTS 64
 #define GULL_PACK_RESULTS 16
@@ -58,8 +72,8 @@ enum { GULL_RNA = 1, GULL_DNA = 2, GULL_AMINO = 3 };
 uint32_t gull_check_volume(const uint8_t *index, size_t index_len, const uint8_t *sequence, size_t sequence_len,
                            const uint8_t *header, size_t header_len, uint8_t *results, size_t results_len);
 
-/* Packs residue codes as one run of packets, into a buffer of little-endian packets, from a place on that is counted in packets.
- * A buffer of 4k to 4k+3 bytes has k packets; the other bytes of the buffer stay as they are.
+/* Packs residue codes, one byte each, as one run of packets, into a buffer of little-endian packets, from a place on that is counted
+ * in packets. A buffer of 4k to 4k+3 bytes has k packets; the other bytes of the buffer stay as they are.
  * Returns 22, 3, 18, 13 for the buffer, 13 where the results range is shorter than 16 bytes.
  * Results: the run's packets, its residues. A run takes at most one packet for each six residues, rounded up, and at least one. */
 uint32_t gull_pack(uint32_t alphabet, const uint8_t *codes, size_t codes_len, uint8_t *packets, size_t packets_len,
