@@ -1,55 +1,103 @@
-# make            proves every crate, builds the library and the programs, and runs them on the samples
+# make            proves every crate, builds the library, the programs and their man pages, and runs them on the samples
+# make demo       the programs on the samples once more
 # make test       the gate: all proofs from nothing, every must-fail edit, every test
 # make edits      the wrong programs that are kept aside: the prover must refuse each
+# make wrong      wrong versions of the C programs: their tests must refuse each
 # make bench      the library beside plain C and memcpy, in one run
 # make torture    a longer comparison with the second program, over every call it finds: SEED=.. COUNT=.. (cases a call)
-# make install    PREFIX=/usr/local: the header, the library and the programs
+# make install    PREFIX=/usr/local: header, library, programs, man pages and pkg-config file; needs no toolchain when built
+# make uninstall  takes them away again
 PREFIX ?= /usr/local
 SEED ?= 1
 COUNT ?= 20000
 CC ?= cc
 CFLAGS ?= -O2
-STRICT = -std=c99 -Wall -Wextra -Werror -pedantic
-PROGRAMS = gullcheck gullpack gullunpack
+WARNINGS = -std=c99 -Wall -Wextra -pedantic
 
-.PHONY: all prove lib timing programs demo test edits bench torture install clean
+CRATES := crates.txt $(shell find crates -type f -not -path '*/must-fail/*')
+HEADERS := $(wildcard console/*.h include/*.h)
+SHARED = console/gull.c console/text.c console/input.c
+CHECK = console/gullcheck.c console/report.c console/names.c console/volume.c console/hint.c console/jobs.c
+CONVERT = console/convert.c console/letters.c
+PROGRAMS = gullcheck gullpack gullunpack gulllist
+PAGES = $(PROGRAMS:%=build/man/%.1) build/man/gullcordage.3
+VERSION = $(shell sed -n 's/^\#define GULL_VERSION "\(.*\)"/\1/p' include/gullcordage.h)
+LINK = $(CC) $(CPPFLAGS) $(WARNINGS) $(CFLAGS) $(LDFLAGS) -o $@ $(filter %.c,$^) build/libgullcordage.a -pthread $(LDLIBS)
 
-all: prove lib programs demo
+.DELETE_ON_ERROR:
+.PHONY: all prove lib timing programs man demo test edits wrong bench torture install uninstall clean
 
-prove:
-	rt check
+all: build/proved build/demo.txt man
 
-lib:
-	rt staticlib console
-	@mkdir -p build
-	cp target/staticlib/libconsole.a build/libgullcordage.a
+prove: build/proved
+lib: build/libgullcordage.a
+timing: build/libtiming.a
+programs: $(PROGRAMS:%=build/bin/%)
+man: $(PAGES)
 
-programs: lib
+# tools/rt lets one rt run at a time.
+build/proved: $(CRATES)
+	@tools/rt check
+	@touch $@
+
+build/libgullcordage.a: $(CRATES)
+	@tools/rt staticlib console
+	cp target/staticlib/libconsole.a $@
+
+build/libtiming.a: $(CRATES)
+	@tools/rt staticlib timing
+	cp target/staticlib/libtiming.a $@
+
+build/bin/gulllist: $(CRATES)
+	@tools/rt check list
 	@mkdir -p build/bin
-	@for p in $(PROGRAMS); do \
-	    echo "$(CC) $$p"; \
-	    $(CC) $(STRICT) $(CFLAGS) -o build/bin/$$p console/$$p.c console/gull.c build/libgullcordage.a || exit 1; \
-	done
-	rt check list
-	cp target/bin/list build/bin/list
+	cp target/bin/list $@
 
-demo:
+build/bin/gullcheck: $(CHECK) $(SHARED) $(HEADERS) build/libgullcordage.a
+	@mkdir -p build/bin
+	$(LINK)
+
+build/bin/gullpack: console/gullpack.c $(CONVERT) $(SHARED) $(HEADERS) build/libgullcordage.a
+	@mkdir -p build/bin
+	$(LINK)
+
+build/bin/gullunpack: console/gullunpack.c $(CONVERT) $(SHARED) $(HEADERS) build/libgullcordage.a
+	@mkdir -p build/bin
+	$(LINK)
+
+build/man/gulllist.1: man/gulllist.1 include/gullcordage.h
+	@mkdir -p build/man
+	sed 's/@VERSION@/$(VERSION)/' man/gulllist.1 > $@
+
+build/man/%.1: build/bin/% man/help.awk
+	@mkdir -p build/man
+	build/bin/$* --help | awk -v name=$* -v version=$(VERSION) -f man/help.awk > $@
+
+build/man/gullcordage.3: include/gullcordage.h man/header.awk
+	@mkdir -p build/man
+	awk -v version=$(VERSION) -f man/header.awk include/gullcordage.h > $@
+
+build/demo.txt: console/demo $(PROGRAMS:%=build/bin/%) | build/proved
+	@sh console/demo > $@ 2>&1
+	@cat $@
+
+demo: programs
 	@sh console/demo
 
 test:
 	bash .ci/run
 
-timing:
-	rt staticlib timing
-	@mkdir -p build
-	cp target/staticlib/libtiming.a build/libtiming.a
-
 edits:
 	tests/edits/try
 
-bench: lib timing
+wrong: lib
+	tests/wrong/try
+
+build/bench/bench: $(wildcard bench/*.c bench/*.h) include/gullcordage.h build/libgullcordage.a build/libtiming.a
 	@mkdir -p build/bench
-	$(CC) -std=gnu11 -O3 -Wall -Wextra -Werror -o build/bench/bench bench/*.c build/libgullcordage.a build/libtiming.a
+	$(CC) -std=gnu11 -O3 -Wall -Wextra $(LDFLAGS) -o $@ $(filter %.c,$^) build/libgullcordage.a build/libtiming.a
+
+bench: build/bench/bench
 	build/bench/bench
 
 torture:
@@ -57,11 +105,21 @@ torture:
 	cd second && cargo build --offline --release
 	second/target/release/compare target/bin/cases --calls present --seed $(SEED) --count $(COUNT)
 
-install: lib programs
-	install -d $(DESTDIR)$(PREFIX)/include $(DESTDIR)$(PREFIX)/lib $(DESTDIR)$(PREFIX)/bin
+install: lib programs man
+	install -d $(DESTDIR)$(PREFIX)/include $(DESTDIR)$(PREFIX)/lib/pkgconfig $(DESTDIR)$(PREFIX)/bin
+	install -d $(DESTDIR)$(PREFIX)/share/man/man1 $(DESTDIR)$(PREFIX)/share/man/man3
 	install -m 644 include/gullcordage.h $(DESTDIR)$(PREFIX)/include/
 	install -m 644 build/libgullcordage.a $(DESTDIR)$(PREFIX)/lib/
-	install -m 755 $(PROGRAMS:%=build/bin/%) build/bin/list $(DESTDIR)$(PREFIX)/bin/
+	sed 's|@PREFIX@|$(PREFIX)|; s|@VERSION@|$(VERSION)|' gullcordage.pc.in > $(DESTDIR)$(PREFIX)/lib/pkgconfig/gullcordage.pc
+	chmod 644 $(DESTDIR)$(PREFIX)/lib/pkgconfig/gullcordage.pc
+	install -m 755 $(PROGRAMS:%=build/bin/%) $(DESTDIR)$(PREFIX)/bin/
+	install -m 644 $(PROGRAMS:%=build/man/%.1) $(DESTDIR)$(PREFIX)/share/man/man1/
+	install -m 644 build/man/gullcordage.3 $(DESTDIR)$(PREFIX)/share/man/man3/
+
+uninstall:
+	rm -f $(DESTDIR)$(PREFIX)/include/gullcordage.h $(DESTDIR)$(PREFIX)/lib/libgullcordage.a
+	rm -f $(DESTDIR)$(PREFIX)/lib/pkgconfig/gullcordage.pc $(PROGRAMS:%=$(DESTDIR)$(PREFIX)/bin/%)
+	rm -f $(PROGRAMS:%=$(DESTDIR)$(PREFIX)/share/man/man1/%.1) $(DESTDIR)$(PREFIX)/share/man/man3/gullcordage.3
 
 clean:
 	rm -rf target build second/target

@@ -1,14 +1,10 @@
-/* What the console's programs share. */
-#define _GNU_SOURCE
+/* What the programs share: answers, writing, help and usage. */
 #include "gull.h"
 
 #include <errno.h>
 #include <stdlib.h>
 #include <string.h>
-#include <sys/mman.h>
 #include <unistd.h>
-
-#include "../include/gullcordage.h"
 
 const char *gull_meaning(uint32_t number)
 {
@@ -39,145 +35,72 @@ uint64_t gull_result(const uint8_t *results, size_t k)
     return n;
 }
 
-int gull_reserve(size_t len, struct bytes *out)
+void *gull_memory(void *at, size_t len)
 {
-    void *at = mmap(NULL, len, PROT_READ, MAP_PRIVATE | MAP_ANONYMOUS | MAP_NORESERVE, -1, 0);
-    if (at == MAP_FAILED)
-        return -1;
-    out->at = at;
-    out->len = len;
-    out->mapped = 1;
-    return 0;
-}
-
-/* The buffer with room for more, at most one byte over the limit. */
-static uint8_t *grown(uint8_t *at, size_t *room)
-{
-    const size_t most = (size_t)GULL_MOST_BYTES + 1;
-    size_t next = *room < most / 2 ? 2 * *room : most;
-    uint8_t *more = realloc(at, next);
-    if (more)
-        *room = next;
+    static const char words[] = "no memory\n";
+    void *more = realloc(at, len ? len : 1);
+    if (!more) {
+        gull_write(STDERR_FILENO, words, sizeof words - 1);
+        _exit(EXIT_TROUBLE);
+    }
     return more;
 }
 
-int gull_read_all(int fd, size_t expected, struct bytes *out)
+int gull_write(int fd, const void *at, size_t len)
 {
-    const size_t most = (size_t)GULL_MOST_BYTES + 1;
-    size_t room = expected < most ? expected + 1 : most, len = 0;
-    uint8_t *at = malloc(room);
-    while (at) {
-        ssize_t got = read(fd, at + len, room - len);
-        if (got < 0 && errno == EINTR)
+    const char *from = at;
+    while (len > 0) {
+        ssize_t done = write(fd, from, len);
+        if (done < 0 && errno == EINTR)
             continue;
-        if (got < 0)
-            break;
-        len += (size_t)got;
-        if (len == most) {
-            free(at);
-            return gull_reserve(most, out);
-        }
-        if (got == 0) {
-            out->at = at;
-            out->len = len;
-            out->mapped = 0;
-            return 0;
-        }
-        if (len == room) {
-            uint8_t *more = grown(at, &room);
-            if (!more)
-                break;
-            at = more;
-        }
+        if (done < 0)
+            return -1;
+        from += done;
+        len -= (size_t)done;
     }
-    int why = at ? errno : ENOMEM;
-    free(at);
-    errno = why;
-    return -1;
+    return 0;
 }
 
-void gull_free(struct bytes *b)
+/* A line on standard error. Where that cannot be written either, the exit status alone tells. */
+static void complain(struct text *t)
 {
-    if (b->mapped)
-        munmap(b->at, b->len);
+    gull_write(STDERR_FILENO, t->at, t->len);
+    text_free(t);
+}
+
+int gull_unwritten(const struct program *p)
+{
+    struct text t = {0};
+    text_format(&t, "%s: standard output could not be written: %s\n", p->name, strerror(errno));
+    complain(&t);
+    return EXIT_TROUBLE;
+}
+
+int gull_told(const struct program *p, const char *word)
+{
+    struct text t = {0};
+    if (strcmp(word, "--version") == 0)
+        text_format(&t, "%s %s\n", p->name, GULL_VERSION);
+    else if (strcmp(word, "--help") == 0 || strcmp(word, "-h") == 0)
+        for (const char *const *part = p->help; *part; part++)
+            text_add(&t, *part);
     else
-        free(b->at);
-    b->at = NULL;
-    b->len = 0;
-    b->mapped = 0;
-}
-
-/* The alphabet that a word names: 1, 2, 3, rna, dna, amino. Another number is handed on as it is; any other word is -1. */
-static int64_t alphabet_of(const char *word)
-{
-    static const char *const names[] = {"rna", "dna", "amino"};
-    for (int i = 0; i < 3; i++)
-        if (strcmp(word, names[i]) == 0)
-            return i + 1;
-    char *end;
-    errno = 0;
-    unsigned long n = strtoul(word, &end, 10);
-    if (*word < '0' || *word > '9' || *end || errno || n > UINT32_MAX)
         return -1;
-    return (int64_t)n;
-}
-
-/* Calls the library on the input and writes what it gives. */
-static int converted(const struct conversion *c, uint32_t alphabet, const struct bytes *input)
-{
-    size_t room = input->mapped ? 0 : c->room(input->len);
-    uint8_t *output = malloc(room + 1), results[16];
-    if (!output) {
-        fprintf(stderr, "%s: no memory\n", c->name);
-        return EXIT_TROUBLE;
-    }
-    int status = EXIT_PASSED;
-    uint32_t answer = c->call(alphabet, input, output, room, results);
-    if (answer != GULL_OK) {
-        fprintf(stderr, "%s: refused %u: %s\n", c->name, answer, gull_meaning(answer));
-        status = EXIT_REFUSED;
-    } else {
-        size_t len = c->length(results);
-        if (fwrite(output, 1, len, stdout) != len || fflush(stdout) != 0) {
-            fprintf(stderr, "%s: standard output could not be written: %s\n", c->name, strerror(errno));
-            status = EXIT_TROUBLE;
-        }
-    }
-    free(output);
+    int status = gull_write(STDOUT_FILENO, t.at, t.len) == 0 ? EXIT_PASSED : gull_unwritten(p);
+    text_free(&t);
     return status;
 }
 
-int gull_convert(const struct conversion *c, int argc, char **argv)
+int gull_misused(const struct program *p, const char *what, const char *word)
 {
-    if (argc == 2 && (strcmp(argv[1], "--help") == 0 || strcmp(argv[1], "-h") == 0)) {
-        fputs(c->usage, stdout);
-        return EXIT_PASSED;
+    struct text t = {0};
+    if (what) {
+        text_format(&t, "%s: %s ", p->name, what);
+        text_name(&t, word);
+        text_add(&t, "\n");
     }
-    int64_t alphabet = argc == 2 ? alphabet_of(argv[1]) : -1;
-    if (alphabet < 0) {
-        fputs(c->usage, stderr);
-        return EXIT_TROUBLE;
-    }
-    struct bytes input;
-    if (gull_read_all(STDIN_FILENO, 1 << 16, &input) != 0) {
-        fprintf(stderr, "%s: standard input could not be read: %s\n", c->name, strerror(errno));
-        return EXIT_TROUBLE;
-    }
-    int status = converted(c, (uint32_t)alphabet, &input);
-    gull_free(&input);
-    return status;
-}
-
-void gull_quote(FILE *to, const uint8_t *at, size_t len, int json)
-{
-    fputc('"', to);
-    for (size_t i = 0; i < len; i++) {
-        if (at[i] == '"' || at[i] == '\\')
-            fprintf(to, "\\%c", at[i]);
-        else if (at[i] < 32 || at[i] > 126)
-            fprintf(to, json ? "\\u%04x" : "\\x%02x", at[i]);
-        else
-            fputc(at[i], to);
-    }
-    fputc('"', to);
+    text_add(&t, p->help[0]);
+    text_format(&t, "%s --help tells more.\n", p->name);
+    complain(&t);
+    return EXIT_TROUBLE;
 }

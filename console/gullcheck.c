@@ -1,242 +1,129 @@
-/* gullcheck: checks BLAST version 4 volumes by base name, one line for each. */
-#define _GNU_SOURCE
-#include <errno.h>
-#include <fcntl.h>
-#include <stdlib.h>
+/* gullcheck: checks BLAST version 4 volumes, one line for each. */
+#include "check.h"
+
 #include <string.h>
-#include <sys/stat.h>
-#include <unistd.h>
 
-#include "../include/gullcordage.h"
-#include "gull.h"
+#define MOST_JOBS 256
 
-static const char usage[] =
-    "usage: gullcheck [--json | --quiet] BASE..\n"
+static const char *const help[] = {
+    "usage: gullcheck [--json] [--quiet] [-j N] [--files-from FILE] [--] NAME..\n",
     "\n"
-    "Checks BLAST version 4 volumes. BASE names a volume without its ending, or with .pin or .nin; where both BASE.pin and BASE.nin\n"
-    "are there, both volumes are checked. Each volume's index, sequence and header file are read whole, and one line tells what it\n"
-    "is, or the number and meaning of the rule that it breaks.\n"
+    "Checks BLAST version 4 volumes. The index, sequence and header file of each are read whole and held against every rule of the\n"
+    "format; one line tells what the volume is, or the number and meaning of the first rule that it breaks.\n"
     "\n"
-    "  --json   one JSON object a line\n"
-    "  --quiet  no line for a volume that passed\n"
+    "Names:\n"
+    "  a directory  every .pin and .nin below it, sorted; links to directories are not followed\n"
+    "  a file       of a volume, by its ending (.pin .psq .phr .nin .nsq .nhr, or .p.. and .n.. beside an index): that volume\n"
+    "  a base name  BASE.pin and BASE.nin, as far as they are there\n"
+    "A volume is checked once, however often it is named. A name that stands for no volume is told, and the status is 2.\n"
     "\n"
-    "Exit status: 0 all passed, 1 some refused, 2 a file could not be read or changed while it was read, or wrong usage.\n";
+    "Options:\n"
+    "  --json             one JSON object a line: \"volume\", then \"answer\" 0 and what the volume is, or \"answer\", \"meaning\" and\n"
+    "                     perhaps \"hint\", or \"file\" and \"error\"; a byte that is not printable ASCII is \\u00NN, so that\n"
+    "                     the characters of a string are the bytes of the name or title\n"
+    "  --quiet            no line for a volume that passed\n"
+    "  -j N               checks N volumes side by side, 1 to 256; the lines keep the order of the names\n"
+    "  --files-from FILE  names from a file, - for standard input: separated by NUL where it has one, else by line feed\n"
+    "  --help             this text\n"
+    "  --version          the version\n"
+    "\n",
+    "Numbers:\n"
+    "  1   the index ends too early: it was cut, or is still being written. Fetch or build the volume again\n"
+    "  2   the version is not 4: another format, or no index at all. Build it with makeblastdb -blastdb_version 4\n"
+    "  3   the type is neither 0 nor 1: the index is damaged. Fetch or build the volume again\n"
+    "  4   a number is outside its range: the index is damaged. Fetch or build the volume again\n"
+    "  5   the timestamp's end is misaligned: another tool wrote the index, or it is damaged. Build the volume again\n"
+    "  6   bytes are left over: the index is damaged, or two files were joined. Fetch or build the volume again\n"
+    "  7   offsets break their rules: the files are not of one build (one is stale, cut or still being copied), or the index is\n"
+    "      damaged. Take the volume out of service and fetch all three files from one build. The hint names the file whose\n"
+    "      length is not what the index states. A nucleotide volume with a lead byte, as makeblastdb writes it, is 7 as well;\n"
+    "      where the hint says that it would pass without that byte, it is whole but not supported yet\n"
+    "  8   a protein separator is not NUL: the sequence file is not the one that the index was made for. As for 7\n"
+    "  9   the stated total or longest length is wrong: index and sequence file do not belong together. As for 7\n"
+    "  22  a file is over 2,147,483,647 bytes, more than a volume can have. Build smaller volumes\n"
+    "A hint in brackets (\"hint\" in JSON) says where to look; it is left out where nothing is certain.\n"
+    "\n"
+    "Exit status:\n"
+    "  0  all passed\n"
+    "  1  a volume was refused\n"
+    "  2  a name stands for no volume, a file could not be read or changed while it was read, output failed, or wrong usage\n",
+    NULL};
 
-enum form { PLAIN, JSON, QUIET };
+static const struct program gullcheck = {"gullcheck", help};
 
-/* Whether a line of progress stands on the terminal. */
-static int shown;
-
-/* Takes the line of progress away, before anything else is written. */
-static void clear_progress(void)
-{
-    if (shown)
-        fputs("\r\033[K", stderr);
-    shown = 0;
-}
-
-/* A volume's three files, and what is known of each before it is opened. */
-struct volume {
-    char name[3][4096 + 8];
-    struct stat before[3];
-    struct bytes file[3];
+struct options {
+    struct form form;
+    unsigned jobs;
+    const char *list;
 };
 
-/* Two looks at a file saw the same one, unchanged. */
-static int same(const struct stat *a, const struct stat *b)
+/* The number of jobs that a word says, 0 where it says none. */
+static unsigned jobs_of(const char *word)
 {
-    return a->st_dev == b->st_dev && a->st_ino == b->st_ino && a->st_size == b->st_size &&
-           a->st_mtim.tv_sec == b->st_mtim.tv_sec && a->st_mtim.tv_nsec == b->st_mtim.tv_nsec &&
-           a->st_ctim.tv_sec == b->st_ctim.tv_sec && a->st_ctim.tv_nsec == b->st_ctim.tv_nsec;
-}
-
-/* A line for a volume that got no answer. */
-static int trouble(enum form form, const char *volume, const char *file, const char *what)
-{
-    clear_progress();
-    if (form == JSON) {
-        fputs("{\"volume\":", stdout);
-        gull_quote(stdout, (const uint8_t *)volume, strlen(volume), 1);
-        fputs(",\"file\":", stdout);
-        gull_quote(stdout, (const uint8_t *)file, strlen(file), 1);
-        fputs(",\"error\":", stdout);
-        gull_quote(stdout, (const uint8_t *)what, strlen(what), 1);
-        fputs("}\n", stdout);
+    unsigned n = 0;
+    for (const char *c = word; *c; c++) {
+        if (*c < '0' || *c > '9' || n > MOST_JOBS)
+            return 0;
+        n = 10 * n + (unsigned)(*c - '0');
     }
-    fprintf(stderr, "gullcheck: %s: %s: %s\n", volume, file, what);
-    return EXIT_TROUBLE;
+    return n <= MOST_JOBS ? n : 0;
 }
 
-/* Opens and reads file k; NULL, or what went wrong. A file over the limit is not read. */
-static const char *take(struct volume *v, int k)
+/* The value of an option: what stands behind `=` or, for -j, right behind it, or else the next word, which is then taken. */
+static char *value_of(const char *option, char ***word)
 {
-    struct stat now;
-    int fd = open(v->name[k], O_RDONLY | O_CLOEXEC);
-    if (fd < 0)
-        return strerror(errno);
-    const char *wrong = NULL;
-    if (fstat(fd, &now) != 0)
-        wrong = strerror(errno);
-    else if (!same(&v->before[k], &now))
-        wrong = "the file was swapped while the volume was read";
-    else if ((uint64_t)now.st_size > GULL_MOST_BYTES)
-        wrong = gull_reserve((size_t)now.st_size, &v->file[k]) == 0 ? NULL : strerror(errno);
-    else if (gull_read_all(fd, (size_t)now.st_size, &v->file[k]) != 0)
-        wrong = strerror(errno);
-    close(fd);
-    return wrong;
+    size_t len = strlen(option);
+    if (strncmp(**word, option, len) != 0)
+        return NULL;
+    char *rest = **word + len;
+    if (*rest == 0)
+        return (*word)[1] ? *++*word : NULL;
+    if (option[1] != '-')
+        return rest;
+    return *rest == '=' ? rest + 1 : NULL;
 }
 
-/* Reads the three files; -1, or the file that could not be read, with what went wrong. All names are looked at before the first is
- * opened and after the last is read. */
-static int take_all(struct volume *v, const char **wrong)
+/* Takes one option; whether it is one. */
+static int take_option(char ***word, struct options *o)
 {
-    struct stat now;
-    for (int k = 0; k < 3; k++) {
-        if (stat(v->name[k], &v->before[k]) != 0)
-            return *wrong = strerror(errno), k;
-        if (!S_ISREG(v->before[k].st_mode))
-            return *wrong = "not a regular file", k;
-    }
-    for (int k = 0; k < 3; k++)
-        if ((*wrong = take(v, k)) != NULL)
-            return k;
-    for (int k = 0; k < 3; k++)
-        if (stat(v->name[k], &now) != 0 || !same(&v->before[k], &now) || v->file[k].len != (size_t)now.st_size)
-            return *wrong = "the file was swapped while the volume was read", k;
-    return -1;
-}
-
-static void tell_passed(enum form form, const char *volume, const uint8_t *index, const uint8_t *results)
-{
-    uint64_t r[8];
-    for (size_t k = 0; k < 8; k++)
-        r[k] = gull_result(results, k);
-    const char *type = r[0] == 1 ? "protein" : "dna";
-    if (form == JSON) {
-        fputs("{\"volume\":", stdout);
-        gull_quote(stdout, (const uint8_t *)volume, strlen(volume), 1);
-        printf(",\"answer\":0,\"type\":\"%s\",\"sequences\":%llu,\"residues\":%llu,\"longest\":%llu,\"title\":", type,
-               (unsigned long long)r[1], (unsigned long long)r[2], (unsigned long long)r[3]);
-    } else {
-        printf("%s: passed: %s, %llu sequences, %llu residues, longest %llu, title ", volume, type, (unsigned long long)r[1],
-               (unsigned long long)r[2], (unsigned long long)r[3]);
-    }
-    gull_quote(stdout, index + r[4], (size_t)r[5], form == JSON);
-    fputs(form == JSON ? ",\"timestamp\":" : ", timestamp ", stdout);
-    gull_quote(stdout, index + r[6], (size_t)r[7], form == JSON);
-    fputs(form == JSON ? "}\n" : "\n", stdout);
-}
-
-static void tell_refused(enum form form, const char *volume, uint32_t answer)
-{
-    if (form == JSON) {
-        fputs("{\"volume\":", stdout);
-        gull_quote(stdout, (const uint8_t *)volume, strlen(volume), 1);
-        printf(",\"answer\":%u,\"meaning\":\"%s\"}\n", answer, gull_meaning(answer));
-    } else {
-        printf("%s: refused %u: %s\n", volume, answer, gull_meaning(answer));
-    }
-}
-
-/* Checks the volume of a base name and a kind of ending, 'p' or 'n'. */
-static int check(enum form form, const char *base, size_t base_len, char kind)
-{
-    static const char *const endings[] = {"in", "sq", "hr"};
-    struct volume v;
-    memset(&v, 0, sizeof v);
-    if (base_len > 4096)
-        return trouble(form, base, base, strerror(ENAMETOOLONG));
-    for (int k = 0; k < 3; k++)
-        snprintf(v.name[k], sizeof v.name[k], "%.*s.%c%s", (int)base_len, base, kind, endings[k]);
-    const char *wrong = NULL;
-    int status, bad = take_all(&v, &wrong);
-    if (bad >= 0) {
-        status = trouble(form, v.name[0], v.name[bad], wrong);
-    } else {
-        uint8_t results[GULL_CHECK_VOLUME_RESULTS];
-        uint32_t answer = gull_check_volume(v.file[0].at, v.file[0].len, v.file[1].at, v.file[1].len, v.file[2].at,
-                                            v.file[2].len, results, sizeof results);
-        clear_progress();
-        if (answer != GULL_OK)
-            tell_refused(form, v.name[0], answer);
-        else if (form != QUIET)
-            tell_passed(form, v.name[0], v.file[0].at, results);
-        status = answer == GULL_OK ? EXIT_PASSED : EXIT_REFUSED;
-    }
-    for (int k = 0; k < 3; k++)
-        gull_free(&v.file[k]);
-    return status;
-}
-
-static int is_there(const char *base, const char *ending)
-{
-    char name[4096 + 8];
-    struct stat s;
-    return snprintf(name, sizeof name, "%s%s", base, ending) < (int)sizeof name && stat(name, &s) == 0;
-}
-
-/* Checks what a word of the command line names: one volume, or the protein and the nucleotide volume of one base name. */
-static int check_word(enum form form, const char *word)
-{
-    size_t len = strlen(word);
-    if (len > 4 && (strcmp(word + len - 4, ".pin") == 0 || strcmp(word + len - 4, ".nin") == 0))
-        return check(form, word, len - 4, word[len - 3]);
-    int p = is_there(word, ".pin"), n = is_there(word, ".nin");
-    if (!p && !n)
-        return trouble(form, word, word, "there is no index, neither .pin nor .nin");
-    int status = p ? check(form, word, len, 'p') : EXIT_PASSED;
-    int other = n ? check(form, word, len, 'n') : EXIT_PASSED;
-    return status > other ? status : other;
-}
-
-/* Reads the options; the place of the first base name, or -1 for wrong usage. */
-static int options(int argc, char **argv, enum form *form)
-{
-    int k = 1;
-    for (; k < argc && argv[k][0] == '-' && argv[k][1]; k++) {
-        if (strcmp(argv[k], "--") == 0)
-            return k + 1;
-        if (strcmp(argv[k], "--json") == 0 && *form == PLAIN)
-            *form = JSON;
-        else if (strcmp(argv[k], "--quiet") == 0 && *form == PLAIN)
-            *form = QUIET;
-        else
-            return -1;
-    }
-    return k;
-}
-
-/* Checks every volume that the words name; the highest of their statuses. */
-static int check_words(enum form form, int words, char **word)
-{
-    int status = EXIT_PASSED, progress = words > 1 && isatty(STDERR_FILENO);
-    for (int k = 0; k < words; k++) {
-        if (progress)
-            shown = fprintf(stderr, "\r\033[Kgullcheck: %d of %d: %s", k + 1, words, word[k]) > 0;
-        int one = check_word(form, word[k]);
-        status = one > status ? one : status;
-    }
-    clear_progress();
-    return status;
+    char *value;
+    if (strcmp(**word, "--json") == 0)
+        o->form.json = 1;
+    else if (strcmp(**word, "--quiet") == 0)
+        o->form.quiet = 1;
+    else if ((value = value_of("-j", word)) != NULL)
+        return (o->jobs = jobs_of(value)) > 0;
+    else if (!o->list && (value = value_of("--files-from", word)) != NULL)
+        o->list = value;
+    else
+        return 0;
+    return 1;
 }
 
 int main(int argc, char **argv)
 {
-    if (argc == 2 && (strcmp(argv[1], "--help") == 0 || strcmp(argv[1], "-h") == 0)) {
-        fputs(usage, stdout);
-        return EXIT_PASSED;
+    struct options o = {{0, 0}, 1, NULL};
+    char **word = argv + (argc > 0);
+    for (; *word && (*word)[0] == '-' && (*word)[1]; word++) {
+        int told = gull_told(&gullcheck, *word);
+        if (told >= 0)
+            return told;
+        if (strcmp(*word, "--") == 0) {
+            word++;
+            break;
+        }
+        if (!take_option(&word, &o))
+            return gull_misused(&gullcheck, "wrong or incomplete option", *word);
     }
-    enum form form = PLAIN;
-    int first = options(argc, argv, &form);
-    if (first < 0 || first >= argc) {
-        fputs(usage, stderr);
-        return EXIT_TROUBLE;
-    }
-    int status = check_words(form, argc - first, argv + first);
-    if (fflush(stdout) != 0 || ferror(stdout)) {
-        fprintf(stderr, "gullcheck: standard output could not be written: %s\n", strerror(errno));
-        return EXIT_TROUBLE;
-    }
+    if (!*word && !o.list)
+        return gull_misused(&gullcheck, NULL, NULL);
+    struct tasks all = {0};
+    if (o.list)
+        tasks_add_list(&all, o.list);
+    for (; *word; word++)
+        tasks_add(&all, *word);
+    tasks_once(&all);
+    int status = check_all(&gullcheck, o.form, &all, o.jobs);
+    tasks_free(&all);
     return status;
 }

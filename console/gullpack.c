@@ -1,14 +1,32 @@
-/* gullpack: residue codes from standard input, one byte each, packed as one run of little-endian packets on standard output. */
-#include "../include/gullcordage.h"
-#include "gull.h"
+/* gullpack: residues from standard input, packed as one run of little-endian packets on standard output. */
+#include "convert.h"
 
-static const char usage[] =
-    "usage: gullpack ALPHABET < codes > packets\n"
+static const char *const help[] = {
+    "usage: gullpack [--letters] ALPHABET < residues > packets\n",
     "\n"
     "Packs residue codes, one byte each, as one run of little-endian dsqdata packets.\n"
-    "ALPHABET is 1 or rna, 2 or dna, 3 or amino. Nucleic codes are 0 to 15, amino codes 0 to 27.\n"
     "\n"
-    "Exit status: 0 packed, 1 refused (the number and its meaning on standard error), 2 input or output failed, or wrong usage.\n";
+    "Alphabets:\n"
+    "  1, rna    codes 0 to 15: " GULL_NUCLEIC_LETTERS "\n"
+    "  2, dna    the same\n"
+    "  3, amino  codes 0 to 27: " GULL_AMINO_LETTERS "\n"
+    "\n"
+    "Options:\n"
+    "  --letters  the input is text, one sequence in the letters above: either case, T and U alike for nucleic, white space left\n"
+    "             out; a letter that no residue has is told with its place\n"
+    "  --help     this text\n"
+    "  --version  the version\n"
+    "\n"
+    "Numbers:\n"
+    "  22  the input is over 2,147,483,647 bytes\n"
+    "  3   the alphabet is not 1, 2 or 3\n"
+    "  18  a residue code is not valid in the alphabet, or a letter is no residue\n"
+    "\n"
+    "Exit status:\n"
+    "  0  packed\n"
+    "  1  refused, the number and its meaning on standard error, and nothing written\n"
+    "  2  input or output failed, or wrong usage\n",
+    NULL};
 
 /* A packet before the last holds six residues or more, and a run has at least one packet. */
 static size_t room(size_t input)
@@ -29,6 +47,6 @@ static size_t length(const uint8_t *results)
 
 int main(int argc, char **argv)
 {
-    static const struct conversion gullpack = {"gullpack", usage, room, call, length};
-    return gull_convert(&gullpack, argc, argv);
+    static const struct conversion gullpack = {{"gullpack", help}, room, call, length, 1};
+    return gull_convert(&gullpack, argv + (argc > 0));
 }
