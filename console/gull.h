@@ -21,10 +21,11 @@ struct bytes {
     size_t len;
 };
 
-/* Text that grows; all zero is an empty one. */
+/* Text that grows; all zero is an empty one. Where there is no memory for it, nothing more is added and `failed` is set. */
 struct text {
     char *at;
     size_t len, room;
+    int failed;
 };
 
 /* A program's name and its help, in parts up to a NULL; the first is the line of usage. */

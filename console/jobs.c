@@ -5,6 +5,7 @@
 #include <errno.h>
 #include <pthread.h>
 #include <stdlib.h>
+#include <string.h>
 #include <unistd.h>
 
 /* What the threads share; all of it but the first part is used under the lock. */
@@ -89,9 +90,8 @@ static void work_together(struct jobs *j, unsigned jobs)
 int check_all(const struct program *p, struct form form, const struct tasks *all, unsigned jobs)
 {
     struct jobs j = {.all = all, .form = form, .progress = all->len > 1 && isatty(STDERR_FILENO), .status = EXIT_PASSED};
-    j.outcomes = calloc(all->len + 1, sizeof *j.outcomes);
-    if (!j.outcomes)
-        j.outcomes = gull_memory(NULL, SIZE_MAX);
+    j.outcomes = gull_memory(NULL, all->len * sizeof *j.outcomes);
+    memset(j.outcomes, 0, all->len * sizeof *j.outcomes);
     pthread_mutex_init(&j.lock, NULL);
     work_together(&j, jobs);
     clear_progress(&j);

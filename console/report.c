@@ -82,27 +82,36 @@ static uint32_t answer_of(const struct volume *v, uint8_t *results)
                              GULL_CHECK_VOLUME_RESULTS);
 }
 
-struct outcome check_task(struct form form, const struct task *task)
+static void check_volume(struct outcome *o, struct form form, const struct task *task)
 {
-    struct outcome o = {.status = EXIT_PASSED};
-    if (task->wrong) {
-        tell_trouble(&o, form, task->name, task->name, task->wrong);
-        return o;
-    }
     struct volume v;
     volume_name(&v, task->name);
     int file = INDEX;
     const char *wrong = volume_read(&v, &file);
     if (wrong) {
-        tell_trouble(&o, form, task->name, v.name[file], wrong);
+        tell_trouble(o, form, task->name, v.name[file], wrong);
     } else {
         uint8_t results[GULL_CHECK_VOLUME_RESULTS];
         uint32_t answer = answer_of(&v, results);
         if (answer != GULL_OK)
-            tell_refused(&o, form, &v, answer);
+            tell_refused(o, form, &v, answer);
         else if (!form.quiet)
-            tell_passed(&o, form, &v, results);
+            tell_passed(o, form, &v, results);
     }
     volume_free(&v);
+}
+
+struct outcome check_task(struct form form, const struct task *task)
+{
+    struct outcome o = {.status = EXIT_PASSED};
+    if (task->wrong)
+        tell_trouble(&o, form, task->name, task->name, task->wrong);
+    else
+        check_volume(&o, form, task);
+    if (o.out.failed || o.err.failed) {
+        text_free(&o.out);
+        text_free(&o.err);
+        tell_trouble(&o, form, task->name, task->name, "no memory for its line");
+    }
     return o;
 }

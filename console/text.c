@@ -6,18 +6,26 @@
 #include <stdlib.h>
 #include <string.h>
 
-/* Room for so many bytes more, and a NUL behind them. */
-static void make_room(struct text *t, size_t more)
+/* Room for so many bytes more, and a NUL behind them; whether there is. */
+static int has_room(struct text *t, size_t more)
 {
-    if (t->room - t->len > more)
-        return;
-    t->room = 2 * t->room + more + 64;
-    t->at = gull_memory(t->at, t->room);
+    if (t->failed || t->room - t->len > more)
+        return !t->failed;
+    size_t room = 2 * t->room + more + 64;
+    char *at = realloc(t->at, room);
+    if (!at) {
+        t->failed = 1;
+        return 0;
+    }
+    t->at = at;
+    t->room = room;
+    return 1;
 }
 
 void text_add_bytes(struct text *t, const void *at, size_t len)
 {
-    make_room(t, len);
+    if (!has_room(t, len))
+        return;
     memcpy(t->at + t->len, at, len);
     t->len += len;
     t->at[t->len] = 0;
@@ -35,26 +43,34 @@ void text_format(struct text *t, const char *format, ...)
     va_copy(again, words);
     int len = vsnprintf(NULL, 0, format, words);
     va_end(words);
-    if (len > 0) {
-        make_room(t, (size_t)len);
+    if (len > 0 && has_room(t, (size_t)len)) {
         vsnprintf(t->at + t->len, (size_t)len + 1, format, again);
         t->len += (size_t)len;
     }
     va_end(again);
 }
 
+/* Adds one byte of a quoted text. */
+static void quote_byte(struct text *t, uint8_t byte, int json)
+{
+    static const char digits[] = "0123456789abcdef";
+    if (byte == '"' || byte == '\\')
+        text_add(t, "\\");
+    if (byte < 32 || byte > 126) {
+        const char hex[] = {digits[byte >> 4], digits[byte & 15]};
+        text_add(t, json ? "\\u00" : "\\x");
+        text_add_bytes(t, hex, sizeof hex);
+    } else {
+        text_add_bytes(t, &byte, 1);
+    }
+}
+
 void text_quote(struct text *t, const void *at, size_t len, int json)
 {
     const uint8_t *from = at;
     text_add(t, "\"");
-    for (size_t i = 0; i < len; i++) {
-        if (from[i] == '"' || from[i] == '\\')
-            text_format(t, "\\%c", from[i]);
-        else if (from[i] < 32 || from[i] > 126)
-            text_format(t, json ? "\\u%04x" : "\\x%02x", from[i]);
-        else
-            text_add_bytes(t, from + i, 1);
-    }
+    for (size_t i = 0; i < len && !t->failed; i++)
+        quote_byte(t, from[i], json);
     text_add(t, "\"");
 }
 

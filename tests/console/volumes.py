@@ -1,5 +1,5 @@
 """gullcheck on one volume: its lines, its numbers, its hints, and files that cannot be read."""
-import glob, json, os, struct, subprocess
+import json, os, resource, struct, subprocess
 
 from trial import *
 
@@ -69,10 +69,22 @@ def test_titles():
     count(json_of(done)[0].get('title', '').encode('latin-1') == title + b'made up proteins'[len(title):], 'its bytes come back from JSON', done)
 
 
+def test_large_title():
+    """A title that is too long for memory as text costs its own line, and no other."""
+    w, size = fresh('title'), 40000000
+    write(f'{w}/a.pin', struct.pack('>3i', 4, 1, size) + bytes(size) + struct.pack('>2i', 0, 0) + bytes(12) + struct.pack('>2i', 0, 1))
+    write(f'{w}/a.psq', bytes(1))
+    write(f'{w}/a.phr', b'')
+    index = copy_volume('mb_prot', f'{w}/b')
+    tight = {'preexec_fn': lambda: resource.setrlimit(resource.RLIMIT_AS, (192 << 20, 192 << 20))}
+    want('no memory for a line', run('gullcheck', w, **tight), 2, f'{index}: {passed_line("mb_prot")}\n', f'gullcheck: {w}/a.pin: no memory for its line\n')
+    want('and with memory', run('gullcheck', '--quiet', w), 0, '', '')
+
+
 def test_names():
     folder = fresh('names')
     forged = f'x.pin: passed: protein\n{SAMPLES}/re_nuc04.nin: passed'
-    for name in ('line\nfeed', 'esc\x1b[2J', 'quo"te', 'back\\slash', 'spa ce', 'co: lon', 'é', b'\xff\xfe', forged.replace('/', '_')):
+    for name in ('line\nfeed', 'esc\x1b[2J', 'quo"te', 'back\\slash', 'spa ce', 'co:lon', 'é', b'\xff\xfe', forged.replace('/', '_')):
         base = os.fsencode(folder) + b'/' + os.fsencode(name)
         index = copy_volume('mb_prot', base)
         done = run('gullcheck', base)
@@ -120,6 +132,8 @@ def test_uncertain():
     start, n = tables(read(index))
     change(index, start + 12 * n + 8, 77)
     want('the two last offsets of dna differ: no hint', run('gullcheck', index), 1, f'{index}: {rule}\n', '')
+    change(index, start + 8 * n + 4, 99)
+    want('and neither is the length: no hint', run('gullcheck', index), 1, f'{index}: {rule}\n', '')
     change(index, start + 8 * n + 4, -5)
     want('a negative last offset: no hint', run('gullcheck', index), 1, f'{index}: {rule}\n', '')
 
@@ -207,6 +221,7 @@ def test_unreadable():
     want('an empty name', run('gullcheck', ''), 2, '', 'an empty name')
     want('a name through a file', run('gullcheck', f'{SAMPLES}/mb_prot.pin/x'), 2, '', 'Not a directory')
     want('a name that is too long', run('gullcheck', 'x' * 5000), 2, '', 'File name too long')
+    want('a name that is too long with its ending', run('gullcheck', 'x' * 254), 2, '', 'File name too long')
 
 
 def test_no_rights():
@@ -236,6 +251,6 @@ def test_no_rights():
 
 
 def test_all():
-    for test in (test_samples, test_statuses, test_json, test_titles, test_names, test_stale_files, test_uncertain, test_lead_byte, test_unreadable,
+    for test in (test_samples, test_statuses, test_json, test_titles, test_large_title, test_names, test_stale_files, test_uncertain, test_lead_byte, test_unreadable,
                  test_no_rights, test_damaged):
         test()
