@@ -46,4 +46,7 @@ in_comment {
 }
 /^$/ { end_code(); next }
 { code($0) }
-END { end_code() }
+END {
+    end_code()
+    print ".SH SEE ALSO\n.BR gullcheck (1),\n.BR gullpack (1),\n.BR gullunpack (1)"
+}

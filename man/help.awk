@@ -40,3 +40,7 @@ NR == 3 {
     blank = 0
     print plain($0)
 }
+END {
+    heading("see also")
+    print ".BR gullcheck (1),\n.BR gullpack (1),\n.BR gullunpack (1),\n.BR gulllist (1),\n.BR gullcordage (3)"
+}

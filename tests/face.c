@@ -223,6 +223,25 @@ static void test_empty_and_oversized(void)
     munmap(over, OVER);
 }
 
+/* The header's letters are as many as there are valid codes, and its version is its three numbers. */
+static void test_header(void)
+{
+    static const struct {
+        uint32_t alphabet;
+        const char *letters;
+    } lists[] = {{GULL_RNA, GULL_NUCLEIC_LETTERS}, {GULL_DNA, GULL_NUCLEIC_LETTERS}, {GULL_AMINO, GULL_AMINO_LETTERS}};
+    uint8_t packets[4], results[GULL_PACK_RESULTS];
+    char version[32];
+    for (size_t k = 0; k < 3; k++)
+        for (unsigned code = 0; code < 256; code++) {
+            uint8_t one = (uint8_t)code;
+            uint32_t answer = gull_pack(lists[k].alphabet, &one, 1, packets, sizeof packets, 0, results, sizeof results);
+            expect(answer == (code < strlen(lists[k].letters) ? GULL_OK : GULL_BAD_CODE), "each valid code has a letter");
+        }
+    snprintf(version, sizeof version, "%d.%d.%d", GULL_VERSION_MAJOR, GULL_VERSION_MINOR, GULL_VERSION_PATCH);
+    expect(strcmp(version, GULL_VERSION) == 0, "the version's numbers");
+}
+
 int main(int argc, char **argv)
 {
     const char *volumes = argc > 1 ? argv[1] : "samples/volumes";
@@ -238,6 +257,7 @@ int main(int argc, char **argv)
     test_round_trip(3, 500);
     test_damaged_runs();
     test_empty_and_oversized();
+    test_header();
     printf("%d checks in all\n%d passed, %d failed\n", passed + failed, failed == 0, failed != 0);
     return failed != 0;
 }

@@ -93,3 +93,19 @@ fn number_22_comes_first_and_at_its_limit() {
     assert_eq!(console_unpack(0, &bytes, &mut [], &mut []), Err(TOO_LARGE));
     assert_eq!(console_unpack(0, &bytes[1..], &mut [], &mut []), Err(ENDS_TOO_EARLY));
 }
+
+#[test]
+fn runs_as_bytes_with_all_their_room() {
+    use second::answers::{BAD_CODE, BAD_RUN, ENDS_TOO_EARLY, WRONG_TYPE};
+    use second::console::{packed, unpacked};
+    assert_eq!(packed(2, &[0, 1, 2, 3]), Ok(vec![0xFF, 0x0F, 0x11, 0xC0]));
+    assert_eq!(packed(3, &[]), Ok(vec![0xFF; 4]));
+    assert_eq!(packed(2, &[16]), Err(BAD_CODE));
+    assert_eq!(packed(4, &[16]), Err(WRONG_TYPE));
+    assert_eq!(unpacked(1, &[0xFF, 0x0F, 0x11, 0xC0]), Ok(vec![0, 1, 2, 3]));
+    assert_eq!(unpacked(4, &[0; 3]), Err(ENDS_TOO_EARLY));
+    assert_eq!(unpacked(0, &[0; 4]), Err(WRONG_TYPE));
+    assert_eq!(unpacked(2, &[0; 4]), Err(BAD_RUN));
+    let codes: Vec<u8> = (0..100_000).map(|k| (k % 4) as u8).collect();
+    assert_eq!(packed(2, &codes).and_then(|run| unpacked(2, &run)), Ok(codes));
+}

@@ -29,7 +29,8 @@ def agree(way, alphabet, data):
     if isinstance(expected, int):
         want(f'{program} {alphabet} refuses {len(data)} bytes', done, 1, b'', f'{program}: refused {expected}: ')
         return b''
-    count((done.status, done.out, done.err) == (0, expected, b''), f'{program} {alphabet} on {len(data)} bytes is what the second program gives',
+    count((done.status, done.out, done.err) == (0, expected, b''),
+          f'{program} {alphabet} on {len(data)} bytes is what the second program gives',
           f'status {done.status}, {len(done.out)} bytes, wanted {len(expected)}, told {done.err!r}')
     return expected
 
@@ -75,9 +76,11 @@ def test_inputs():
         want('from the middle of a file', run('gullpack', 'dna', stdin=file), 0, own('pack', 2, data[319990:]), '')
     for program in ('gullpack', 'gullunpack'):
         folder = os.open(w, os.O_RDONLY)
-        want(f'{program} from a directory', run(program, 'dna', stdin=folder), 2, b'', f'{program}: standard input could not be read: Is a directory\n')
+        want(f'{program} from a directory', run(program, 'dna', stdin=folder), 2, b'',
+             f'{program}: standard input could not be read: Is a directory\n')
         os.close(folder)
-        want(f'{program} from a closed input', run('/bin/sh', '-c', f'{os.path.join(BIN, program)} dna <&-'), 2, b'', 'Bad file descriptor\n')
+        want(f'{program} from a closed input', run('/bin/sh', '-c', f'{os.path.join(BIN, program)} dna <&-'), 2, b'',
+             'Bad file descriptor\n')
 
 
 def test_limit():
@@ -88,7 +91,8 @@ def test_limit():
     for program in ('gullpack', 'gullunpack'):
         for word in ('dna', '9'):
             with open(f'{w}/sparse', 'rb') as file:
-                want(f'{program} {word} on a large file', run(program, word, stdin=file, **tight), 1, b'', f'{program}: refused 22: an input is over 2,147,483,647 bytes\n')
+                want(f'{program} {word} on a large file', run(program, word, stdin=file, **tight), 1, b'',
+                     f'{program}: refused 22: an input is over 2,147,483,647 bytes\n')
         with open(f'{w}/sparse', 'rb') as file:
             file.seek(1)
             want(f'{program} without memory', run(program, 'dna', stdin=file, **tight), 2, b'', 'Cannot allocate memory\n')
@@ -114,21 +118,25 @@ def test_letters():
     for alphabet, name, letters in ((1, 'rna', NUCLEIC), (2, 'dna', NUCLEIC), (3, 'amino', AMINO)):
         every = bytes(range(len(letters)))
         for text in (letters, letters.lower(), ' \t\v\f\r\n'.join(letters) + '\n'):
-            want(f'{name} letters {text[:12]!r}', run('gullpack', '--letters', name, data=text.encode()), 0, own('pack', alphabet, every), '')
+            want(f'{name} letters {text[:12]!r}', run('gullpack', '--letters', name, data=text.encode()), 0, own('pack', alphabet, every),
+                 '')
         want(f'{name} as letters', run('gullunpack', '--letters', name, data=own('pack', alphabet, every)), 0, letters + '\n', '')
         for size in (0, 1, 15, 16, 4000, 70000):
             data = codes(alphabet, size, chance, size % 3)
             text = ''.join(letters[c] for c in data)
             want(f'{size} {name} letters', run('gullpack', name, '--letters', data=text.encode()), 0, own('pack', alphabet, data), '')
-            want(f'{size} letters of {name}', run('gullunpack', '--letters', str(alphabet), data=own('pack', alphabet, data)), 0, text + '\n', '')
+            want(f'{size} letters of {name}', run('gullunpack', '--letters', str(alphabet), data=own('pack', alphabet, data)), 0,
+                 text + '\n', '')
     want('T and U alike', run('gullpack', '--letters', 'rna', data=b'TUtu'), 0, own('pack', 1, b'\3\3\3\3'), '')
     want('T and U of amino', run('gullpack', '--letters', 'amino', data=b'TU'), 0, own('pack', 3, bytes([16, 25])), '')
 
 
 def test_unknown_letters():
     told = 'refused 18: a residue code is not valid'
-    for text, word, shown in ((b'ACGJ', 'dna', '"J" at line 1, column 4'), (b'AC\nGT\n\n A?T!', 'dna', '"?" at line 4, column 3'), (b'>id\nACGT', 'dna', '">" at line 1, column 1'),
-                              (b'AC\x1bG', 'dna', r'"\x1b" at line 1, column 3'), (b'\0', 'amino', r'"\x00" at line 1, column 1'), (b'MK@', '3', '"@" at line 1, column 3')):
+    for text, word, shown in ((b'ACGJ', 'dna', '"J" at line 1, column 4'), (b'AC\nGT\n\n A?T!', 'dna', '"?" at line 4, column 3'),
+                              (b'>id\nACGT', 'dna', '">" at line 1, column 1'),
+                              (b'AC\x1bG', 'dna', r'"\x1b" at line 1, column 3'), (b'\0', 'amino', r'"\x00" at line 1, column 1'),
+                              (b'MK@', '3', '"@" at line 1, column 3')):
         want(f'the letter {shown}', run('gullpack', '--letters', word, data=text), 1, b'', f'gullpack: {told} ({shown} is no residue)\n')
     want('an alphabet that is none', run('gullpack', '--letters', '9', data=b'?'), 1, b'', 'refused 3')
     want('letters that are not asked for', run('gullpack', 'dna', data=b'ACGT'), 1, b'', f'gullpack: {told}\n')
@@ -137,7 +145,8 @@ def test_unknown_letters():
 
 def test_usage():
     for program in ('gullpack', 'gullunpack'):
-        for words in ((), ('protein',), ('-1',), ('dna', 'dna'), ('--leters', 'dna'), ('--letters',), ('4294967296',), ('2x',), ('',), (' 2',), ('--', '--letters')):
+        for words in ((), ('protein',), ('-1',), ('dna', 'dna'), ('--leters', 'dna'), ('--letters',), ('4294967296',), ('2x',), ('',),
+                      (' 2',), ('--', '--letters')):
             want(f'{program} {words}', run(program, *words), 2, b'', f'usage: {program}')
     want('--', run('gullpack', '--', 'dna'), 0, b'\xff\xff\xff\xff', '')
     for word in ('1', 'rna', '2', 'dna'):

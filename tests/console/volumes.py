@@ -26,7 +26,8 @@ def test_samples():
 
 def test_statuses():
     good, bad, none = (f'{SAMPLES}/{name}' for name in ('mb_prot', 're_nuc04', 'none'))
-    for words, status in (((good, good), 0), ((bad, good), 1), ((good, bad), 1), ((none, good), 2), ((good, none), 2), ((none, bad), 2), ((bad, none), 2)):
+    for words, status in (((good, good), 0), ((bad, good), 1), ((good, bad), 1), ((none, good), 2), ((good, none), 2), ((none, bad), 2),
+                          ((bad, none), 2)):
         for jobs in ('1', '3'):
             want(f'the worst status of {words}', run('gullcheck', '--quiet', '-j', jobs, *words), status)
 
@@ -40,15 +41,18 @@ def test_json():
                              'title': 'made up nucleotides', 'timestamp': stamp}], 'its object', done)
     done = run('gullcheck', '--json', f'{v}/re_nuc04')
     want('--json of a refusal', done, 1, told='')
-    count(json_of(done) == [{'volume': f'{v}/re_nuc04.nin', 'answer': 5, 'meaning': "the timestamp's end is misaligned", 'hint': 'in the index'}],
+    count(json_of(done) == [{'volume': f'{v}/re_nuc04.nin', 'answer': 5, 'meaning': "the timestamp's end is misaligned",
+                             'hint': 'in the index'}],
           'its object', done)
     done = run('gullcheck', '--json', f'{v}/fd_v3', f'{v}/none')
     want('--json without an answer', done, 2, told=f'gullcheck: {v}/fd_v3.nin: {v}/fd_v3.nsq: No such file or directory\n')
     count(json_of(done) == [{'volume': f'{v}/fd_v3.nin', 'file': f'{v}/fd_v3.nsq', 'error': 'No such file or directory'},
-                            {'volume': f'{v}/none', 'file': f'{v}/none', 'error': 'there is no index, neither .pin nor .nin'}], 'its objects', done)
+                            {'volume': f'{v}/none', 'file': f'{v}/none', 'error': 'there is no index, neither .pin nor .nin'}],
+                            'its objects', done)
     done = run('gullcheck', '--json', '--quiet', f'{v}/mb_prot', f'{v}/re_nuc04', f'{v}/none')
     want('--json --quiet', done, 2)
-    count([sorted(o) for o in json_of(done)] == [['answer', 'hint', 'meaning', 'volume'], ['error', 'file', 'volume']], 'only what did not pass', done)
+    count([sorted(o) for o in json_of(done)] == [['answer', 'hint', 'meaning', 'volume'], ['error', 'file', 'volume']],
+          'only what did not pass', done)
 
 
 def retitled(name, title):
@@ -66,7 +70,8 @@ def test_titles():
     want('a title that a terminal would obey', run('gullcheck', index), 0,
          f'{index}: ' + passed_line('mb_prot').replace('made up proteins'[:len(title)], shown) + '\n', '')
     done = run('gullcheck', '--json', index)
-    count(json_of(done)[0].get('title', '').encode('latin-1') == title + b'made up proteins'[len(title):], 'its bytes come back from JSON', done)
+    count(json_of(done)[0].get('title', '').encode('latin-1') == title + b'made up proteins'[len(title):],
+          'its bytes come back from JSON', done)
 
 
 def test_large_title():
@@ -77,7 +82,8 @@ def test_large_title():
     write(f'{w}/a.phr', b'')
     index = copy_volume('mb_prot', f'{w}/b')
     tight = {'preexec_fn': lambda: resource.setrlimit(resource.RLIMIT_AS, (192 << 20, 192 << 20))}
-    want('no memory for a line', run('gullcheck', w, **tight), 2, f'{index}: {passed_line("mb_prot")}\n', f'gullcheck: {w}/a.pin: no memory for its line\n')
+    want('no memory for a line', run('gullcheck', w, **tight), 2, f'{index}: {passed_line("mb_prot")}\n',
+         f'gullcheck: {w}/a.pin: no memory for its line\n')
     want('and with memory', run('gullcheck', '--quiet', w), 0, '', '')
 
 
@@ -103,10 +109,12 @@ def test_stale_files():
     rule = 'refused 7: offsets break their rules'
     index = copy_volume('mb_prot', f'{w}/s')
     write(f'{w}/s.psq', read(f'{v}/mb_prot.psq') + b'\1\2\3\0')
-    want('a longer sequence file', run('gullcheck', index), 1, f'{index}: {rule} (the index states 1664 bytes for the sequence file, it has 1668)\n', '')
+    want('a longer sequence file', run('gullcheck', index), 1,
+         f'{index}: {rule} (the index states 1664 bytes for the sequence file, it has 1668)\n', '')
     write(f'{w}/s.phr', read(f'{v}/mb_prot.phr')[:-1])
     want('and a shorter header file', run('gullcheck', index), 1,
-         f'{index}: {rule} (the index states 1119 bytes for the header file, it has 1118; the index states 1664 bytes for the sequence file, it has 1668)\n')
+         f'{index}: {rule} (the index states 1119 bytes for the header file, it has 1118; '
+         'the index states 1664 bytes for the sequence file, it has 1668)\n')
     write(f'{w}/s.psq', read(f'{v}/mb_prot.psq'))
     done = run('gullcheck', '--json', index)
     count(json_of(done)[0].get('hint') == 'the index states 1119 bytes for the header file, it has 1118', 'the hint in JSON', done)
@@ -158,7 +166,8 @@ def test_lead_byte():
     index = copy_volume('mb_nuc', f'{w}/count')
     start, n = tables(read(index))
     change(index, start - 4, 4299)
-    want('a lead byte and a wrong longest length', run('gullcheck', index), 1, f'{index}: {rule} ({lead}, without it the volume would be refused 9)\n')
+    want('a lead byte and a wrong longest length', run('gullcheck', index), 1,
+         f'{index}: {rule} ({lead}, without it the volume would be refused 9)\n')
     index = f'{w}/none.nin'
     write(index, struct.pack('>4i8xi', 4, 0, 0, 8, 0) + bytes(12) + struct.pack('>3i', 0, 1, 1))
     write(f'{w}/none.nsq', b'\0')
@@ -192,8 +201,10 @@ def test_damaged():
     names = damaged(fresh('damaged'), 400)
     stream = b''
     for index in names:
-        stream += b'\1' + b''.join(struct.pack('<I', len(data)) + data for data in (read(index[:-2] + ending) for ending in ('in', 'sq', 'hr')))
-    expected = subprocess.run(['second/target/release/own-cases'], input=stream, capture_output=True, check=True).stdout.decode().split('\n')[:-1]
+        stream += b'\1' + b''.join(struct.pack('<I', len(data)) + data for data in (read(index[:-2] + ending) for ending in ('in', 'sq',
+                                                                                                                             'hr')))
+    expected = subprocess.run(['second/target/release/own-cases'], input=stream, capture_output=True,
+                              check=True).stdout.decode().split('\n')[:-1]
     done = run('gullcheck', '--json', '-j', '2', os.path.dirname(names[0]))
     answers = [str(o.get('answer')) for o in json_of(done)]
     count(answers == [line.split(' ')[0] for line in expected], 'the answers of 400 damaged volumes', answers)
@@ -251,6 +262,7 @@ def test_no_rights():
 
 
 def test_all():
-    for test in (test_samples, test_statuses, test_json, test_titles, test_large_title, test_names, test_stale_files, test_uncertain, test_lead_byte, test_unreadable,
+    for test in (test_samples, test_statuses, test_json, test_titles, test_large_title, test_names, test_stale_files, test_uncertain,
+                 test_lead_byte, test_unreadable,
                  test_no_rights, test_damaged):
         test()

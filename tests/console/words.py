@@ -15,7 +15,8 @@ def tree():
     for folder in ('b', 'a/deep/er', 'a.d', 'empty', '.hidden'):
         os.makedirs(f'{w}/{folder}')
     found = [copy_volume(sample, f'{w}/{base}') for sample, base in (
-        ('mb_prot', 'b/one'), ('re_nuc0', 'b/one'), ('re_nuc0', 'a/deep/er/two'), ('mb_prot', 'a.d/three'), ('mb_prot', 'top'), ('mb_prot', '.hidden/four'))]
+        ('mb_prot', 'b/one'), ('re_nuc0', 'b/one'), ('re_nuc0', 'a/deep/er/two'), ('mb_prot', 'a.d/three'), ('mb_prot', 'top'),
+        ('mb_prot', '.hidden/four'))]
     for name in ('b/notes', 'b/x.pin.old', 'a/pin', 'empty/lone.psq'):
         write(f'{w}/{name}', b'')
     os.symlink('../a', f'{w}/b/link')
@@ -42,7 +43,8 @@ def test_directories():
     want('beside one with', run('gullcheck', '--quiet', f'{w}/b', f'{w}/empty'), 2, '', f'{w}/empty: {none}\n')
     want('a directory named as an index', run('gullcheck', f'{w}/a/folder.pin'), 2, '', f'{w}/a/folder.pin: {none}\n')
     os.symlink('nowhere', f'{w}/b/gone.nin')
-    want('a dangling index in it is told', run('gullcheck', '--quiet', f'{w}/b'), 2, '', f'{w}/b/gone.nin: a link to a file that is not there\n')
+    want('a dangling index in it is told', run('gullcheck', '--quiet', f'{w}/b'), 2, '',
+         f'{w}/b/gone.nin: a link to a file that is not there\n')
     os.mkdir(f'{w}/top')
     copy_volume('re_nuc0', f'{w}/top/inside')
     done = run('gullcheck', f'{w}/top')
@@ -71,10 +73,12 @@ def test_lists():
     w, found = tree()
     v = SAMPLES
     good = [f'{v}/mb_prot.pin', f'{v}/re_nuc0.nin']
-    for what, data in (('line feeds', '\n'.join(good) + '\n'), ('no line feed behind the last', '\n'.join(good)), ('empty lines', '\n\n'.join(good) + '\n\n'),
+    for what, data in (('line feeds', '\n'.join(good) + '\n'), ('no line feed behind the last', '\n'.join(good)),
+                       ('empty lines', '\n\n'.join(good) + '\n\n'),
                        ('NUL', '\0'.join(good) + '\0'), ('no NUL behind the last', '\0'.join(good))):
         write(f'{w}/list', data.encode())
-        for done in (run('gullcheck', '--files-from', f'{w}/list'), run('gullcheck', f'--files-from={w}/list'), run('gullcheck', '--files-from', '-', data=data.encode())):
+        for done in (run('gullcheck', '--files-from', f'{w}/list'), run('gullcheck', f'--files-from={w}/list'),
+                     run('gullcheck', '--files-from', '-', data=data.encode())):
             want(f'a list: {what}', done, 0, told='')
             count(names_of(done) == good, f'its names: {what}', done)
     copy_volume('mb_prot', f'{w}/line\nfeed')
@@ -93,7 +97,8 @@ def test_lists():
 
 def test_usage():
     v = f'{SAMPLES}/mb_prot'
-    for words in ((), ('--json',), ('--jsn', v), ('-j', '0', v), ('-j', '257', v), ('-j', 'x', v), ('-j', '', v), ('-j', '99999999999999999999', v), ('-j',),
+    for words in ((), ('--json',), ('--jsn', v), ('-j', '0', v), ('-j', '257', v), ('-j', 'x', v), ('-j', '', v),
+                  ('-j', '99999999999999999999', v), ('-j',),
                   ('--files-from',), ('--files-from', '-', '--files-from', '-'), ('-x', v), ('--jsonx', v)):
         want(f'wrong usage {words}', run('gullcheck', *words), 2, '', 'usage: gullcheck')
     want('an option with ESC', run('gullcheck', '-\x1b[2J'), 2, '', r'"-\x1b[2J"')
@@ -120,7 +125,8 @@ def test_help():
     for program in ('gullcheck', 'gullpack', 'gullunpack'):
         for word in ('--help', '-h'):
             done = run(program, word)
-            count(done.status == 0 and done.out.startswith(f'usage: {program} '.encode()) and b'Exit status:' in done.out and not done.err, f'{program} {word}', done)
+            whole = done.out.startswith(f'usage: {program} '.encode()) and b'Exit status:' in done.out
+            count(done.status == 0 and whole and not done.err, f'{program} {word}', done)
         want(f'{program} --version', run(program, '--version'), 0, f'{program} {version()}\n', '')
     text = run('gullcheck', '--help').out.decode()
     for number in (1, 2, 3, 4, 5, 6, 7, 8, 9, 22):
@@ -130,8 +136,10 @@ def test_help():
 def test_full():
     """Output that cannot be written is status 2, whatever was found."""
     v = SAMPLES
-    for words in (('gullcheck', f'{v}/mb_prot'), ('gullcheck', f'{v}/re_nuc04'), ('gullcheck', '--json', f'{v}/re_nuc04'), ('gullcheck', '--json', f'{v}/none'),
-                  ('gullcheck', '-j', '3', f'{v}'), ('gullcheck', '--help'), ('gullcheck', '--version'), ('gullpack', 'dna'), ('gullpack', '--help'),
+    for words in (('gullcheck', f'{v}/mb_prot'), ('gullcheck', f'{v}/re_nuc04'), ('gullcheck', '--json', f'{v}/re_nuc04'),
+                  ('gullcheck', '--json', f'{v}/none'),
+                  ('gullcheck', '-j', '3', f'{v}'), ('gullcheck', '--help'), ('gullcheck', '--version'), ('gullpack', 'dna'),
+                  ('gullpack', '--help'),
                   ('gullpack', '--version'), ('gullpack', '--letters', 'dna'), ('gullunpack', '--help')):
         with open('/dev/full', 'wb') as full:
             done = run(*words, stdout=full)
@@ -141,11 +149,15 @@ def test_full():
             want(f'{words} to a full device', run(*words, stdout=full, data=b'\xff\x0f\x11\xc0'), 2, told='No space left on device\n')
     small = {'preexec_fn': lambda: (signal.signal(signal.SIGXFSZ, signal.SIG_IGN), resource.setrlimit(resource.RLIMIT_FSIZE, (100, 100)))}
     with open(f'{WORK}/part', 'wb') as file:
-        want('a file that takes a part only', run('gullcheck', f'{v}/mb_prot', stdout=file, **small), 2, told='could not be written: File too large\n')
+        want('a file that takes a part only', run('gullcheck', f'{v}/mb_prot', stdout=file, **small), 2,
+             told='could not be written: File too large\n')
     with open(f'{WORK}/part', 'wb') as file:
-        want('and of packets', run('gullpack', 'dna', data=bytes(9000), stdout=file, **small), 2, told='could not be written: File too large\n')
-    want('a line to a closed output', run('/bin/sh', '-c', f'{os.path.join(BIN, "gullcheck")} {v}/mb_prot >&-'), 2, told='Bad file descriptor\n')
-    want('--quiet has nothing to write', run('/bin/sh', '-c', f'{os.path.join(BIN, "gullcheck")} --quiet {v}/mb_prot >/dev/full'), 0, '', '')
+        want('and of packets', run('gullpack', 'dna', data=bytes(9000), stdout=file, **small), 2,
+             told='could not be written: File too large\n')
+    want('a line to a closed output', run('/bin/sh', '-c', f'{os.path.join(BIN, "gullcheck")} {v}/mb_prot >&-'), 2,
+         told='Bad file descriptor\n')
+    want('--quiet has nothing to write', run('/bin/sh', '-c', f'{os.path.join(BIN, "gullcheck")} --quiet {v}/mb_prot >/dev/full'), 0, '',
+         '')
 
 
 def test_lines():
@@ -163,7 +175,8 @@ def test_lines():
         run('gullcheck', '-j', jobs, *words, stdout=theirs)
         theirs.send(b'end')
         reader.join()
-        count(b''.join(pieces) == single.out and all(p.endswith(b'\n') and p.count(b'\n') == 1 for p in pieces), f'-j {jobs}: a write a line',
+        count(b''.join(pieces) == single.out and all(p.endswith(b'\n') and p.count(b'\n') == 1 for p in pieces),
+              f'-j {jobs}: a write a line',
               [p for p in pieces if p.count(b'\n') != 1][:3])
 
 
@@ -187,9 +200,12 @@ def test_swapped(swapped):
     copy_volume('re_nuc0', f'{w}/v')
     want('nothing happens', run(swapped, f'{w}/v', env={'AT_READ_1': 'true', **path}), 0, f'{w}/v.nin: {passed_line("re_nuc0")}\n', '')
     write(f'{w}/new', read(f'{w}/v.nhr'))
-    want('a header file is replaced', run(swapped, f'{w}/v', env={'AT_READ_1': f'mv {w}/new {w}/v.nhr', **path}), 2, '', f'{w}/v.nhr: {told}')
-    want('an index is touched once it is open', run(swapped, f'{w}/v', env={'AT_READ_1': f'touch -d 2001-01-01 {w}/v.nin', **path}), 2, '', f'{w}/v.nin: {told}')
-    want('a header file is gone at the end', run(swapped, f'{w}/v', env={'AT_READ_5': f'rm {w}/v.nhr', **path}), 2, '', f'{w}/v.nhr: {told}')
+    want('a header file is replaced', run(swapped, f'{w}/v', env={'AT_READ_1': f'mv {w}/new {w}/v.nhr', **path}), 2, '',
+         f'{w}/v.nhr: {told}')
+    want('an index is touched once it is open', run(swapped, f'{w}/v', env={'AT_READ_1': f'touch -d 2001-01-01 {w}/v.nin', **path}), 2,
+         '', f'{w}/v.nin: {told}')
+    want('a header file is gone at the end', run(swapped, f'{w}/v', env={'AT_READ_5': f'rm {w}/v.nhr', **path}), 2, '',
+         f'{w}/v.nhr: {told}')
     # the directory is exchanged for another while the sequence file is opened, and back again: only what was opened shows it
     for folder in ('one', 'two'):
         os.mkdir(f'{w}/{folder}')
@@ -199,7 +215,8 @@ def test_swapped(swapped):
     want('another file was opened', run(swapped, f'{w}/now/v', env=env), 2, '', f'{w}/now/v.nsq: {told}')
     os.mkfifo(f'{w}/pipe')
     copy_volume('re_nuc0', f'{w}/p')
-    want('a FIFO in its place does not hang', run(swapped, f'{w}/p', env={'AT_OPEN_2': f'mv {w}/pipe {w}/p.nsq', **path}), 2, '', f'{w}/p.nsq: {told}')
+    want('a FIFO in its place does not hang', run(swapped, f'{w}/p', env={'AT_OPEN_2': f'mv {w}/pipe {w}/p.nsq', **path}), 2, '',
+         f'{w}/p.nsq: {told}')
 
 
 def test_limit(small):
@@ -212,11 +229,13 @@ def test_limit(small):
         want(f'a large {file}', run('gullcheck', index, **tight), 1,
              f'{index}: refused 22: an input is over 2,147,483,647 bytes (the {file} has 2147483648)\n', '')
         os.truncate(f'{w}/{k}.{ending}', 2**31 - 1)
-        want(f'a {file} for which there is no memory', run('gullcheck', index, **tight), 2, '', f'{w}/{k}.{ending}: Cannot allocate memory\n')
+        want(f'a {file} for which there is no memory', run('gullcheck', index, **tight), 2, '',
+             f'{w}/{k}.{ending}: Cannot allocate memory\n')
         os.remove(f'{w}/{k}.{ending}')
     index = copy_volume('re_nuc0', f'{w}/edge')
     os.truncate(f'{w}/edge.nhr', 100000)
-    want('at the limit it is read', run(small, index), 1, f'{index}: refused 7: offsets break their rules (the index states 1786 bytes for the header file, it has 100000)\n')
+    stated = 'the index states 1786 bytes for the header file, it has 100000'
+    want('at the limit it is read', run(small, index), 1, f'{index}: refused 7: offsets break their rules ({stated})\n')
     os.truncate(f'{w}/edge.nhr', 100001)
     want('a byte over it is 22', run(small, index), 1, f'{index}: refused 22: an input is over 2,147,483,647 bytes (the header file has 100001)\n')
 
