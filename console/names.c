@@ -140,8 +140,9 @@ static int has_index(const char *base, const char *ending)
 {
     struct stat s;
     char *name = joined(base, strlen(base), ending);
-    int found = lstat(name, &s) == 0 ? 1 : errno == ENOENT ? 0 : -1;
+    int found = lstat(name, &s) == 0 ? 1 : errno == ENOENT ? 0 : -1, why = errno;
     free(name);
+    errno = why;
     return found;
 }
 
