@@ -9,7 +9,7 @@
 /* A volume's three files, in the order index, sequence, header. */
 enum { INDEX = 0, SEQUENCE = 1, HEADER = 2 };
 
-/* A volume: the names of its files, what was seen of each before it was opened, and what they hold. */
+/* A volume: the names of its files, what was seen of each before it was opened, and what they hold; of the header file only the length. */
 struct volume {
     char *name[3];
     struct stat before[3];
@@ -20,7 +20,7 @@ struct volume {
 /* The files of the volume whose index has this name. */
 void volume_name(struct volume *v, const char *index);
 
-/* Looks at the three files, reads them, and looks again. Returns NULL, or what went wrong with `*file`. */
+/* Looks at the three files, reads index and sequence file, and looks again. Returns NULL, or what went wrong with `*file`. */
 const char *volume_read(struct volume *v, int *file);
 
 void volume_free(struct volume *v);

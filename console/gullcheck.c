@@ -8,8 +8,9 @@
 static const char *const help[] = {
     "usage: gullcheck [--json] [--quiet] [-j N] [--files-from FILE] [--] NAME..\n",
     "\n"
-    "Checks BLAST version 4 volumes. The index, sequence and header file of each are read whole and held against every rule of the\n"
-    "format; one line tells what the volume is, or the number and meaning of the first rule that it breaks.\n"
+    "Checks BLAST version 4 volumes. Index and sequence file of each are read whole, of the header file the length alone, and held\n"
+    "against every rule of the format; one line tells what the volume is, or the number and meaning of the first rule that it\n"
+    "breaks.\n"
     "\n"
     "Names:\n"
     "  a directory  every .pin and .nin below it, sorted; links to directories are not followed\n"

@@ -1,4 +1,5 @@
-/* A volume's three files: looked at, read whole, and looked at again, so that a file that others replace meanwhile gets no answer. */
+/* A volume's three files: looked at, read, and looked at again, so that a file that others replace meanwhile gets no answer. Of the header
+ * file the check asks the length alone, so it is opened and not read. */
 #define _GNU_SOURCE
 #include "check.h"
 
@@ -6,6 +7,7 @@
 #include <fcntl.h>
 #include <string.h>
 #include <stdlib.h>
+#include <sys/mman.h>
 #include <unistd.h>
 
 static const char swapped[] = "the file was swapped while the volume was read";
@@ -43,7 +45,19 @@ static const char *look(const char *name, struct stat *seen)
     return S_ISREG(seen->st_mode) ? NULL : "not a regular file";
 }
 
-/* Opens and reads file k; NULL, or what went wrong. What is opened must be what was looked at. */
+/* A range of so many bytes that is really there and never filled: pages of zeros, which cost no memory while nobody reads them. */
+static const char *reserve(struct bytes *b, size_t len)
+{
+    if (len == 0)
+        return NULL;
+    void *at = mmap(NULL, len, PROT_READ, MAP_PRIVATE | MAP_ANONYMOUS | MAP_NORESERVE, -1, 0);
+    if (at == MAP_FAILED)
+        return strerror(errno);
+    *b = (struct bytes){at, len};
+    return NULL;
+}
+
+/* Opens and reads file k, the header file only to know its length; NULL, or what went wrong. What is opened must be what was looked at. */
 static const char *take(struct volume *v, int k)
 {
     struct stat now;
@@ -55,6 +69,8 @@ static const char *take(struct volume *v, int k)
         wrong = strerror(errno);
     else if (!same(&v->before[k], &now))
         wrong = swapped;
+    else if (k == HEADER)
+        wrong = reserve(&v->file[k], (size_t)now.st_size);
     else {
         int status = gull_read(fd, &v->file[k]);
         if (status != 0)
@@ -91,8 +107,10 @@ const char *volume_read(struct volume *v, int *file)
 
 void volume_free(struct volume *v)
 {
-    for (int k = 0; k < 3; k++) {
+    for (int k = 0; k < 3; k++)
         free(v->name[k]);
-        gull_free(&v->file[k]);
-    }
+    gull_free(&v->file[INDEX]);
+    gull_free(&v->file[SEQUENCE]);
+    if (v->file[HEADER].len > 0)
+        munmap(v->file[HEADER].at, v->file[HEADER].len);
 }

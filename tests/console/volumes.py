@@ -219,7 +219,7 @@ def test_unreadable():
             ('psq', lambda p: os.symlink('nowhere', p), 'a link to a file that is not there'),
             ('pin', lambda p: os.symlink(os.path.basename(p), p), 'Too many levels of symbolic links'),
             ('phr', lambda p: os.symlink('/dev/null', p), 'not a regular file'),
-            ('phr', lambda p: os.symlink('/proc/version', p), 'the file was swapped while the volume was read'))):
+            ('psq', lambda p: os.symlink('/proc/version', p), 'the file was swapped while the volume was read'))):
         copy_volume('mb_prot', f'{w}/{k}')
         os.remove(f'{w}/{k}.{ending}')
         make(f'{w}/{k}.{ending}')

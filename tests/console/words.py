@@ -204,8 +204,8 @@ def test_swapped(swapped):
          f'{w}/v.nhr: {told}')
     want('an index is touched once it is open', run(swapped, f'{w}/v', env={'AT_READ_1': f'touch -d 2001-01-01 {w}/v.nin', **path}), 2,
          '', f'{w}/v.nin: {told}')
-    want('a header file is gone at the end', run(swapped, f'{w}/v', env={'AT_READ_5': f'rm {w}/v.nhr', **path}), 2, '',
-         f'{w}/v.nhr: {told}')
+    want('an index is gone at the end', run(swapped, f'{w}/v', env={'AT_OPEN_3': f'rm {w}/v.nin', **path}), 2, '',
+         f'{w}/v.nin: {told}')
     # the directory is exchanged for another while the sequence file is opened, and back again: only what was opened shows it
     for folder in ('one', 'two'):
         os.mkdir(f'{w}/{folder}')
