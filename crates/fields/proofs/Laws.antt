@@ -15,7 +15,7 @@ use Rattle.laws.specs.Digits.{value}
 use Rattle.laws.specs.Writing.{writtenAt}
 use Rattle.laws.proofs.Tests.{bool-cases}
 use Rattle.laws.proofs.Writing.{length-written}
-use Rattle.fields.specs.Number.{Order, big, little, number, bytesAt, unsignedAt, signed}
+use Rattle.fields.specs.Number.{Order, big, little, number, bytesAt, unsignedAt, signed, signedAt}
 use Rattle.fields.specs.Written.{littleBytes, numberPut}
 
 pub unsigned-bytes : (order : Order) (w : ℕ) (file : List ℕ) (at : ℕ) → unsignedAt order w file at ≡ number order (bytesAt w file at 0)
@@ -34,40 +34,85 @@ machine-signed w32 n = sel-cond (ltb n 2147483648) _ _
 machine-signed w64 n = sel-cond (ltb n 9223372036854775808) _ _
 machine-signed w128 n = sel-cond (ltb n (2 ^ 127)) _ _
 
-pub signed-low : (w : Width) (u n : ℕ) → u ≡ n → toZ w u ≡ signed (bytes w) n
-signed-low w u n e = machine-signed w u ∙ ap (signed (bytes w)) e
+-- a signed field is its unsigned one in two's complement, in every order and at every width
+pub signed-field : (order : Order) (w : ℕ) {r : ℤ} {u : ℕ} (file : List ℕ) (at : ℕ) → r ≡ signed w u → u ≡ unsignedAt order w file at
+    → r ≡ signedAt order w file at
+unfolding signedAt
+signed-field order w file at e f = e ∙ ap (signed w) f
 
 -- the complement of the complement, as the code makes a negative number
-pub signed-high : (w : Width) (m u n : ℕ) → u ≤ m → u ≡ n → toZ w (m - (m - u)) ≡ signed (bytes w) n
-signed-high w m u n h e =
-    let b : m - (m - u) ≡ u = omega arith in
-    ap (toZ w) b ∙ signed-low w u n e
+pub signed-high : (w : Width) (m n : ℕ) → n ≤ m → toZ w (m - (m - n)) ≡ signed (bytes w) n
+signed-high w m n h =
+    let e : m - (m - n) ≡ n = omega arith in
+    ap (toZ w) e ∙ machine-signed w n
 
 pub past-end : (file : List ℕ) (at : ℕ) → length file ≤ at → 0 ≡ getD file at 0
 past-end file at h = sym (List·getD-eq-default file 0 h)
 
--- equal lists of four from equal elements
-ap₄ : {a b c d x y z w : ℕ} → a ≡ x → b ≡ y → c ≡ z → d ≡ w → _≡_ {A = List ℕ} (a ∷ b ∷ c ∷ d ∷ []) (x ∷ y ∷ z ∷ w ∷ [])
-ap₄ e f g h = rw (e, f, g, h)
+-- the room that the code tests, without a sum that could overflow
+pub room : (at w n : ℕ) → w ≤ n → leb at (n - w) ≡ leb (at + w) n
+room at w n h =
+    bool-cases (leb at (n - w))
+    (λ e. e ∙ sym (le-leb (at + w) n (omega (arith, leb-true at (n - w) e))))
+    (λ e. e ∙ sym (lt-leb (at + w) n (omega (arith, leb-false at (n - w) e))))
 
--- four bytes one by one, as the code reads them
+-- ---- a field by its bytes
+
+-- four bytes one by one
 pub four-bytes : (file : List ℕ) (at k : ℕ)
     → bytesAt 4 file at k ≡ getD file (at + k) 0 ∷ getD file (at + (k + 1)) 0 ∷ getD file (at + (k + 2)) 0 ∷ getD file (at + (k + 3)) 0 ∷ []
 four-bytes file at k = rw (add-one k, add-two k, add-three k)
 
--- the number of the four bytes from place at + k on, as the code adds it up
-module _ (file : List ℕ) (at k a b c d : ℕ) (e : a ≡ getD file (at + k) 0) (f : b ≡ getD file (at + (k + 1)) 0)
-    (g : c ≡ getD file (at + (k + 2)) 0) (h : d ≡ getD file (at + (k + 3)) 0) where
-  pub big-four : a * 16777216 + b * 65536 + c * 256 + d ≡ number big (bytesAt 4 file at k)
-  unfolding value
-  big-four =
-      let n : a * 16777216 + b * 65536 + c * 256 + d ≡ number big (a ∷ b ∷ c ∷ d ∷ []) = omega arith in
-      n ∙ ap (number big) (ap₄ e f g h ∙ sym (four-bytes file at k))
+-- the same as the code reads them
+pub four-read : (file : List ℕ) (at k : ℕ) {a b c d : ℕ} → a ≡ getD file (at + k) 0 → b ≡ getD file (at + (k + 1)) 0
+    → c ≡ getD file (at + (k + 2)) 0 → d ≡ getD file (at + (k + 3)) 0 → _≡_ {A = List ℕ} (a ∷ b ∷ c ∷ d ∷ []) (bytesAt 4 file at k)
+four-read file at k e f g h = rw (four-bytes file at k, e, f, g, h)
 
-  pub little-four : a + b * 256 + c * 65536 + d * 16777216 ≡ number little (bytesAt 4 file at k)
-  little-four =
-      let n : a + b * 256 + c * 65536 + d * 16777216 ≡ number little (a ∷ b ∷ c ∷ d ∷ []) = omega arith in
-      n ∙ ap (number little) (ap₄ e f g h ∙ sym (four-bytes file at k))
+-- their little-endian number
+pub little-four : (file : List ℕ) (at k a b c d : ℕ) → a ≡ getD file (at + k) 0 → b ≡ getD file (at + (k + 1)) 0
+    → c ≡ getD file (at + (k + 2)) 0 → d ≡ getD file (at + (k + 3)) 0 → a + b * 256 + c * 65536 + d * 16777216 ≡ number little (bytesAt 4 file at k)
+little-four file at k a b c d e f g h =
+    let n : a + b * 256 + c * 65536 + d * 16777216 ≡ number little (a ∷ b ∷ c ∷ d ∷ []) = omega arith in
+    n ∙ ap (number little) (four-read file at k e f g h)
+
+-- a lowest byte put before the others, at every width
+low-byte : (w b n : ℕ) → b < 256 → littleBytes (suc w) (b + 256 * n) ≡ b ∷ littleBytes w n
+low-byte w b n h =
+    let m : (b + 256 * n) % 256 ≡ b = omega arith in
+    let d : (b + 256 * n) / 256 ≡ n = omega arith in
+    rw (m, d)
+
+pub word-bytes : (a b c d : ℕ) → a < 256 → b < 256 → c < 256 → d < 256
+    → littleBytes 4 (a + b * 256 + c * 65536 + d * 16777216) ≡ a ∷ b ∷ c ∷ d ∷ []
+word-bytes a b c d e f g h =
+    let n : a + b * 256 + c * 65536 + d * 16777216 ≡ a + 256 * (b + 256 * (c + 256 * (d + 256 * 0))) = omega arith in
+    rw (n, low-byte 3 a (b + 256 * (c + 256 * (d + 256 * 0))) e, low-byte 2 b (c + 256 * (d + 256 * 0)) f, low-byte 1 c (d + 256 * 0) g, low-byte 0 d 0 h)
+
+pub big-word : (a b c d : ℕ) → d + c * 256 + b * 65536 + a * 16777216 ≡ number big (a ∷ b ∷ c ∷ d ∷ [])
+unfolding value
+big-word a b c d = omega arith
+
+-- a field is the number of its bytes, in every order and at every width
+pub field-number : (order : Order) (w n : ℕ) (file : List ℕ) (at : ℕ) {r : ℕ} → r ≡ number order (littleBytes w n)
+    → littleBytes w n ≡ bytesAt w file at 0 → r ≡ unsignedAt order w file at
+unfolding unsignedAt
+field-number order w n file at e f = e ∙ ap (number order) f
+
+-- a field of eight bytes by the numbers of its halves
+module _ (file : List ℕ) (at m n : ℕ) (f : littleBytes 4 m ≡ bytesAt 4 file at 0) (g : littleBytes 4 n ≡ bytesAt 4 file at 4) where
+  halves : (order : Order) {a b : ℕ} → a ≡ number order (littleBytes 4 m) → b ≡ number order (littleBytes 4 n)
+      → (a ≡ number order (bytesAt 4 file at 0)) × (b ≡ number order (bytesAt 4 file at 4))
+  halves order d e = (d ∙ ap (number order) f, e ∙ ap (number order) g)
+
+  pub big-halves : {a b : ℕ} → a ≡ number big (littleBytes 4 m) → b ≡ number big (littleBytes 4 n)
+      → a * 4294967296 + b ≡ unsignedAt big 8 file at
+  unfolding unsignedAt value
+  big-halves d e = let h = halves big d e in omega (arith, h .0, h .1)
+
+  pub little-halves : {a b : ℕ} → a ≡ number little (littleBytes 4 m) → b ≡ number little (littleBytes 4 n)
+      → b * 4294967296 + a ≡ unsignedAt little 8 file at
+  unfolding unsignedAt
+  little-halves d e = let h = halves little d e in omega (arith, h .0, h .1)
 
 -- ---- numbers written
 

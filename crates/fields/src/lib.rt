@@ -1,9 +1,11 @@
 // Integers at a place of a byte slice, of 4 or 8 bytes, big- or little-endian, unsigned or in two's complement, and numbers written
 // as little-endian bytes. Every public function is total: a byte past the end reads as 0, and a number that does not fit is not written.
 ghost use mathlib.Core.Path.{_≡_};
-ghost use Prim.Native.Nat.{_+_, _≤_, _<_};
+ghost use mathlib.Core.List.{[], _∷_};
+ghost use Prim.Native.Nat.{_+_, _*_, _≤_, _<_};
+ghost use lib.Dec.{leb};
 ghost use lib.ListN.{length, getD};
-ghost use Rattle.fields.specs.Number.{big, little, number, bytesAt, unsignedAt, signedAt};
+ghost use Rattle.fields.specs.Number.{big, little, number, bytesAt, unsignedAt, signed, signedAt};
 ghost use Rattle.laws.specs.Writing.{writtenAt};
 ghost use Rattle.fields.specs.Written.{littleBytes, numberPut};
 
@@ -18,9 +20,8 @@ pub fn byte(s: &[u8], at: usize) -> u8
 }
 
 // The byte k places past a place.
-fn byte_past(s: &[u8], at: usize, k: usize) -> u32
-    ensures value { λ r. ⌜ r ≡ getD (now (s .entry)) (at + k) 0 ⌝ }
-    ensures small { λ r. ⌜ r < 256 ⌝ }
+fn byte_past(s: &[u8], at: usize, k: usize) -> u8
+    ensures { λ r. ⌜ r ≡ getD (now (s .entry)) (at + k) 0 ⌝ }
 {
     if s.len() <= at {
         return 0;
@@ -28,7 +29,17 @@ fn byte_past(s: &[u8], at: usize, k: usize) -> u32
     if s.len() - at <= k {
         return 0;
     }
-    s[at + k] as u32
+    s[at + k]
+}
+
+// Whether w bytes from a place on lie in a slice of so many.
+fn fits(len: usize, at: usize, w: usize) -> bool
+    ensures { λ r. ⌜ r ≡ leb (at + w) len ⌝ }
+{
+    if len < w {
+        return false;
+    }
+    at <= len - w
 }
 
 // A byte as a wider number.
@@ -39,156 +50,142 @@ fn wide(b: u8) -> u32
     b as u32
 }
 
-// The four bytes from place at + k on, big-endian, where all lie in the slice.
-fn be_inside(s: &[u8], at: usize, k: usize) -> u32
+// Four bytes as one number, the first the lowest.
+fn word(a: u8, b: u8, c: u8, d: u8) -> u32
+    ensures value { λ r. ⌜ r ≡ a + b * 256 + c * 65536 + d * 16777216 ⌝ }
+    ensures bytes { λ r. ⌜ littleBytes 4 r ≡ a ∷ b ∷ c ∷ d ∷ [] ⌝ }
+{
+    wide(a) + wide(b) * 256 + wide(c) * 65536 + wide(d) * 16777216
+}
+
+// The four bytes from place at + k on as one number, where all lie in the slice: one load.
+fn inside(s: &[u8], at: usize, k: usize) -> u32
     requires { ⌜ at + k + 4 ≤ length (now s) ⌝ }
-    ensures { λ r. ⌜ r ≡ number big (bytesAt 4 (now (s .entry)) at k) ⌝ }
+    ensures { λ r. ⌜ littleBytes 4 r ≡ bytesAt 4 (now (s .entry)) at k ⌝ }
 {
-    wide(s[at + k]) * 16777216
-        + wide(s[at + (k + 1)]) * 65536
-        + wide(s[at + (k + 2)]) * 256
-        + wide(s[at + (k + 3)])
+    word(s[at + k], s[at + (k + 1)], s[at + (k + 2)], s[at + (k + 3)])
 }
 
-// The same where some lie past the end.
-fn be_past(s: &[u8], at: usize, k: usize) -> u32
+// The four bytes from place at + k on as one number.
+fn four(s: &[u8], at: usize, k: usize) -> u32
     requires { ⌜ k ≤ 4 ⌝ }
-    ensures { λ r. ⌜ r ≡ number big (bytesAt 4 (now (s .entry)) at k) ⌝ }
+    ensures { λ r. ⌜ littleBytes 4 r ≡ bytesAt 4 (now (s .entry)) at k ⌝ }
 {
-    byte_past(s, at, k) * 16777216
-        + byte_past(s, at, k + 1) * 65536
-        + byte_past(s, at, k + 2) * 256
-        + byte_past(s, at, k + 3)
+    if fits(s.len(), at, k + 4) {
+        return inside(s, at, k);
+    }
+    word(
+        byte_past(s, at, k),
+        byte_past(s, at, k + 1),
+        byte_past(s, at, k + 2),
+        byte_past(s, at, k + 3),
+    )
 }
 
-// The four bytes from place at + k on, big-endian.
-fn be_part(s: &[u8], at: usize, k: usize) -> u32
-    requires { ⌜ k ≤ 4 ⌝ }
-    ensures { λ r. ⌜ r ≡ number big (bytesAt 4 (now (s .entry)) at k) ⌝ }
+// The number of a word's bytes, little-endian.
+fn little_endian(bytes: u32) -> u32
+    ensures { λ r. ⌜ r ≡ number little (littleBytes 4 bytes) ⌝ }
 {
-    if s.len() < k + 4 {
-        return be_past(s, at, k);
-    }
-    if s.len() - (k + 4) < at {
-        return be_past(s, at, k);
-    }
-    be_inside(s, at, k)
+    bytes
 }
 
-// The four bytes from place at + k on, little-endian, where all lie in the slice.
-fn le_inside(s: &[u8], at: usize, k: usize) -> u32
-    requires { ⌜ at + k + 4 ≤ length (now s) ⌝ }
-    ensures { λ r. ⌜ r ≡ number little (bytesAt 4 (now (s .entry)) at k) ⌝ }
+// The number of a word's bytes, big-endian.
+fn big_endian(bytes: u32) -> u32
+    ensures { λ r. ⌜ r ≡ number big (littleBytes 4 bytes) ⌝ }
 {
-    wide(s[at + k])
-        + wide(s[at + (k + 1)]) * 256
-        + wide(s[at + (k + 2)]) * 65536
-        + wide(s[at + (k + 3)]) * 16777216
+    word(
+        (bytes / 256 / 256 / 256 % 256) as u8,
+        (bytes / 256 / 256 % 256) as u8,
+        (bytes / 256 % 256) as u8,
+        (bytes % 256) as u8,
+    )
 }
 
-// The same where some lie past the end.
-fn le_past(s: &[u8], at: usize, k: usize) -> u32
-    requires { ⌜ k ≤ 4 ⌝ }
-    ensures { λ r. ⌜ r ≡ number little (bytesAt 4 (now (s .entry)) at k) ⌝ }
+// The number of eight bytes, by the numbers of its halves.
+fn joined(high: u32, low: u32) -> u64
+    ensures { λ r. ⌜ r ≡ high * 4294967296 + low ⌝ }
 {
-    byte_past(s, at, k)
-        + byte_past(s, at, k + 1) * 256
-        + byte_past(s, at, k + 2) * 65536
-        + byte_past(s, at, k + 3) * 16777216
-}
-
-// The four bytes from place at + k on, little-endian.
-fn le_part(s: &[u8], at: usize, k: usize) -> u32
-    requires { ⌜ k ≤ 4 ⌝ }
-    ensures { λ r. ⌜ r ≡ number little (bytesAt 4 (now (s .entry)) at k) ⌝ }
-{
-    if s.len() < k + 4 {
-        return le_past(s, at, k);
-    }
-    if s.len() - (k + 4) < at {
-        return le_past(s, at, k);
-    }
-    le_inside(s, at, k)
+    (high as u64) * 4294967296 + (low as u64)
 }
 
 // The unsigned field of four bytes at a place, big-endian.
 pub fn be_u32(s: &[u8], at: usize) -> u32
     ensures { λ r. ⌜ r ≡ unsignedAt big 4 (now (s .entry)) at ⌝ }
 {
-    be_part(s, at, 0)
+    big_endian(four(s, at, 0))
 }
 
 // The unsigned field of four bytes at a place, little-endian.
 pub fn le_u32(s: &[u8], at: usize) -> u32
     ensures { λ r. ⌜ r ≡ unsignedAt little 4 (now (s .entry)) at ⌝ }
 {
-    le_part(s, at, 0)
+    little_endian(four(s, at, 0))
 }
 
 // The unsigned field of eight bytes at a place, big-endian.
 pub fn be_u64(s: &[u8], at: usize) -> u64
     ensures { λ r. ⌜ r ≡ unsignedAt big 8 (now (s .entry)) at ⌝ }
 {
-    let high = be_part(s, at, 0);
-    let low = be_part(s, at, 4);
-    (high as u64) * 4294967296 + (low as u64)
+    let high = big_endian(four(s, at, 0));
+    let low = big_endian(four(s, at, 4));
+    joined(high, low)
 }
 
 // The unsigned field of eight bytes at a place, little-endian.
 pub fn le_u64(s: &[u8], at: usize) -> u64
     ensures { λ r. ⌜ r ≡ unsignedAt little 8 (now (s .entry)) at ⌝ }
 {
-    let low = le_part(s, at, 0);
-    let high = le_part(s, at, 4);
-    (high as u64) * 4294967296 + (low as u64)
+    let low = little_endian(four(s, at, 0));
+    let high = little_endian(four(s, at, 4));
+    joined(high, low)
+}
+
+// The two's complement number of four bytes.
+fn signed4(n: u32) -> i32
+    ensures { λ r. ⌜ r ≡ signed 4 n ⌝ }
+{
+    if n < 0x8000_0000 {
+        return n as i32;
+    }
+    !((0xffff_ffff - n) as i32)
+}
+
+// The two's complement number of eight bytes.
+fn signed8(n: u64) -> i64
+    ensures { λ r. ⌜ r ≡ signed 8 n ⌝ }
+{
+    if n < 0x8000_0000_0000_0000 {
+        return n as i64;
+    }
+    !((0xffff_ffff_ffff_ffff - n) as i64)
 }
 
 // The two's complement field of four bytes at a place, big-endian.
 pub fn be_i32(s: &[u8], at: usize) -> i32
     ensures { λ r. ⌜ r ≡ signedAt big 4 (now (s .entry)) at ⌝ }
 {
-    let u = be_u32(s, at);
-    if u < 2147483648 {
-        u as i32
-    } else {
-        !((4294967295 - u) as i32)
-    }
+    signed4(be_u32(s, at))
 }
 
 // The two's complement field of four bytes at a place, little-endian.
 pub fn le_i32(s: &[u8], at: usize) -> i32
     ensures { λ r. ⌜ r ≡ signedAt little 4 (now (s .entry)) at ⌝ }
 {
-    let u = le_u32(s, at);
-    if u < 2147483648 {
-        u as i32
-    } else {
-        !((4294967295 - u) as i32)
-    }
+    signed4(le_u32(s, at))
 }
 
 // The two's complement field of eight bytes at a place, big-endian.
 pub fn be_i64(s: &[u8], at: usize) -> i64
     ensures { λ r. ⌜ r ≡ signedAt big 8 (now (s .entry)) at ⌝ }
 {
-    let u = be_u64(s, at);
-    if u < 9223372036854775808 {
-        u as i64
-    } else {
-        !((18446744073709551615 - u) as i64)
-    }
+    signed8(be_u64(s, at))
 }
 
 // The two's complement field of eight bytes at a place, little-endian.
 pub fn le_i64(s: &[u8], at: usize) -> i64
     ensures { λ r. ⌜ r ≡ signedAt little 8 (now (s .entry)) at ⌝ }
 {
-    let u = le_u64(s, at);
-    if u < 9223372036854775808 {
-        u as i64
-    } else {
-        !((18446744073709551615 - u) as i64)
-    }
+    signed8(le_u64(s, at))
 }
 
 // Writes the low w bytes of a number at a place, the lowest first, where they fit.
@@ -209,13 +206,9 @@ fn put_bytes(out: &mut [u8], at: usize, w: usize, n: u64)
 fn put(out: &mut [u8], at: usize, w: usize, n: u64)
     ensures { λ _. ⌜ now (out .exit) ≡ numberPut w at n (now (out .entry)) ⌝ }
 {
-    if out.len() < w {
-        return;
+    if fits(out.len(), at, w) {
+        put_bytes(out, at, w, n);
     }
-    if out.len() - w < at {
-        return;
-    }
-    put_bytes(out, at, w, n);
 }
 
 // Writes a number's four bytes at a place, little-endian; nothing where they do not fit.

@@ -1,15 +1,19 @@
--- `fields::be_u32`: its four bytes. Assumes nothing.
-use Rattle.fields.specs.Number.{unsignedAt}
+-- `fields::be_u32`: the number of its four bytes. Assumes nothing.
+use denote.Ref.{now}
+use Rattle.fields.specs.Number.{big}
+use Rattle.fields.proofs.Laws.{field-number}
 use borrow.Author.Needs.{needs}
 use Rattle.fields.proofs.be_u32.Statement.{statement}
 use Rattle.fields.proofs.be_u32.Tie as tie
 
-be-part-requires : tie.Need-be-part-requires
-be-part-requires c κs = search needs
+four-requires : tie.Need-four-requires
+four-requires c κs = search needs
+
+big-endian-requires : tie.Need-big-endian-requires
+big-endian-requires c κs = search needs
 
 returns : tie.Need-returns
-unfolding unsignedAt
-returns c = search needs
+returns c = let a = (c .before .before .before .args) in field-number big 4 ((c .before .four) .result) (now (a .s)) (a .at) ((c .big-endian) .ensures) ((c .before .four) .ensures)
 
 pub be-u32-spec : {M : Type 1} → statement M
-be-u32-spec = tie.close (tie.spec be-part-requires returns)
+be-u32-spec = tie.close (tie.spec four-requires big-endian-requires returns)

@@ -1,40 +1,39 @@
 -- `fields::be_u64`: its two halves. Assumes nothing.
-use Rattle.fields.specs.Number.{unsignedAt}
-use Rattle.laws.specs.Digits.{value}
+use denote.Ref.{now}
+use mathlib.Core.Path.{_∙_}
+use Rattle.fields.proofs.Laws.{big-halves}
 use borrow.Author.Needs.{needs}
 use Rattle.fields.proofs.be_u64.Statement.{statement}
 use Rattle.fields.proofs.be_u64.Tie as tie
 
-be-part-requires : tie.Need-be-part-requires
-be-part-requires c κs = search needs
+four-requires : tie.Need-four-requires
+four-requires c κs = search needs
 
-be-part-requires-2 : tie.Need-be-part-requires-2
-be-part-requires-2 c κs = search needs
+big-endian-requires : tie.Need-big-endian-requires
+big-endian-requires c κs = search needs
 
-cast-result : tie.Need-cast-result
-cast-result c = search needs
+four-requires-2 : tie.Need-four-requires-2
+four-requires-2 c κs = search needs
 
-mul-result : tie.Need-mul-result
-mul-result c = search needs
+big-endian-requires-2 : tie.Need-big-endian-requires-2
+big-endian-requires-2 c κs = search needs
 
-cast-result-2 : tie.Need-cast-result-2
-cast-result-2 c = search needs
-
-add-result : tie.Need-add-result
-add-result c = search needs
+joined-requires : tie.Need-joined-requires
+joined-requires c κs = search needs
 
 returns : tie.Need-returns
-unfolding unsignedAt value
-returns c = search needs
+returns c =
+    let a = (c .before .before .before .before .before .before .args) in
+    (c .joined) .ensures
+    ∙ big-halves (now (a .s)) (a .at) _ _ ((c .before .before .before .before .four) .ensures) ((c .before .before .four2) .ensures) ((c .before .before .before .big-endian) .ensures) ((c .before .big-endian2) .ensures)
 
 pub be-u64-spec : {M : Type 1} → statement M
 be-u64-spec =
     tie.close
     (tie.spec
-    be-part-requires
-    be-part-requires-2
-    cast-result
-    mul-result
-    cast-result-2
-    add-result
+    four-requires
+    big-endian-requires
+    four-requires-2
+    big-endian-requires-2
+    joined-requires
     returns)

@@ -1,32 +1,22 @@
--- `fields::le_i32`: the upper half of the numbers are the negative ones. Assumes nothing.
-use mir.Syntax.{w32}
-use Rattle.fields.proofs.Laws.{signed-low, signed-high}
-use Rattle.fields.specs.Number.{signedAt}
+-- `fields::le_i32`: the unsigned field in two's complement. Assumes nothing.
+use denote.Ref.{now}
+use Rattle.fields.specs.Number.{little}
+use Rattle.fields.proofs.Laws.{signed-field}
 use borrow.Author.Needs.{needs}
-use Prim.Native.Nat.{_-_}
 use Rattle.fields.proofs.le_i32.Statement.{statement}
 use Rattle.fields.proofs.le_i32.Tie as tie
 
 le-u32-requires : tie.Need-le-u32-requires
 le-u32-requires c κs = search needs
 
-cast-result : tie.Need-cast-result
-cast-result c = search needs
-
-sub-result : tie.Need-sub-result
-sub-result c = search needs
-
-cast-result-2 : tie.Need-cast-result-2
-cast-result-2 c = search needs
+signed4-requires : tie.Need-signed4-requires
+signed4-requires c κs = search needs
 
 returns : tie.Need-returns
-unfolding signedAt
-returns c = signed-low w32 _ _ (c .before .le-u32 .ensures)
-
-returns-2 : tie.Need-returns-2
-unfolding signedAt
-returns-2 c = signed-high w32 4294967295 _ _ (search needs) (c .before .le-u32 .ensures)
+returns c =
+    let a = (c .before .before .before .args) in
+    let h = signed-field little 4 (now (a .s)) (a .at) ((c .signed4) .ensures) ((c .before .le-u32) .ensures) in
+    search needs
 
 pub le-i32-spec : {M : Type 1} → statement M
-le-i32-spec =
-    tie.close (tie.spec le-u32-requires cast-result sub-result cast-result-2 returns returns-2)
+le-i32-spec = tie.close (tie.spec le-u32-requires signed4-requires returns)

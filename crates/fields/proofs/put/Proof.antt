@@ -1,29 +1,34 @@
 -- `fields::put`: by the definition's test. Assumes nothing.
-use mathlib.Core.Path.{sym, _∙_}
-use native.Mathlib.Omega.{arith}
 use denote.Ref.{now}
+use mathlib.Core.Path.{sym, _∙_}
+use Prim.Native.Nat.{_+_}
+use lib.ListN.{length}
+use borrow.Author.Tests.{leb-true, leb-false}
 use Rattle.fields.proofs.Laws.{put-fits, put-not}
 use borrow.Author.Needs.{needs}
 use Rattle.fields.proofs.put.Statement.{statement}
 use Rattle.fields.proofs.put.Tie as tie
 
-returns : tie.Need-returns
-returns c = let a = (c .before .before .args) in sym (put-not (a .w) (a .at) (a .n) (now (a .out)) (omega arith))
-
-sub-if2 : tie.Need-sub-if2
-sub-if2 c = search needs
-
-returns-2 : tie.Need-returns-2
-returns-2 c = let a = (c .before .before .before .args) in sym (put-not (a .w) (a .at) (a .n) (now (a .out)) (omega arith))
+fits-requires : tie.Need-fits-requires
+fits-requires c κs = search needs
 
 put-bytes-requires : tie.Need-put-bytes-requires
-put-bytes-requires c κs = search needs
+put-bytes-requires c κs = let a = (c .before .before .before .before .args) in leb-true (a .at + a .w) (length (now (a .out))) (sym ((c .before .before .fits2) .ensures) ∙ (c .before .if1) .taken)
 
 same-length : tie.Need-same-length
 same-length c = search needs
 
-returns-3 : tie.Need-returns-3
-returns-3 c = let a = (c .before .before .before .before .before .before .before .args) in (c .before .before .put-bytes) .ensures ∙ sym (put-fits (a .w) (a .at) (a .n) (now (a .out)) (omega arith))
+returns : tie.Need-returns
+returns c =
+    let a = (c .before .before .before .before .before .before .before .args) in
+    let h = leb-true (a .at + a .w) (length (now (a .out))) (sym ((c .before .before .before .before .before .fits2) .ensures) ∙ (c .before .before .before .before .if1) .taken) in
+    (c .before .before .put-bytes) .ensures ∙ sym (put-fits (a .w) (a .at) (a .n) (now (a .out)) h)
+
+returns-2 : tie.Need-returns-2
+returns-2 c =
+    let a = (c .before .before .before .args) in
+    let h = leb-false (a .at + a .w) (length (now (a .out))) (sym ((c .before .fits2) .ensures) ∙ (c .if1) .left) in
+    sym (put-not (a .w) (a .at) (a .n) (now (a .out)) h)
 
 pub put-spec : {M : Type 1} → statement M
-put-spec = tie.close (tie.spec returns sub-if2 returns-2 put-bytes-requires same-length returns-3)
+put-spec = tie.close (tie.spec fits-requires put-bytes-requires same-length returns returns-2)
