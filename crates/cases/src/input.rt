@@ -1,101 +1,123 @@
 // The stream of cases on standard input: numbers, ranges and outputs, as the protocol has them.
+ghost use Prim.Native.Nat.{_≤_};
 
 // The most bytes of a range and the most packets of a packet range.
-pub const MOST_BYTES: usize = 16384;
+const MOST_BYTES: u64 = 16384;
 
-pub const MOST_PACKETS: usize = 4096;
+const MOST_PACKETS: u64 = 4096;
 
-// What stands for a length where the run ends: the stream ends inside a case, or a range is too long.
-pub const CUT: usize = 1000000;
+// Whether the run goes on, or why it ends: the stream ends inside a case, a range is too long, or a byte names no call.
+pub enum Stream {
+    On,
+    Cut,
+    TooLong,
+    Unknown,
+}
 
-pub const TOO_LONG: usize = 2000000;
-
-// A number of the stream, unless it ends there.
+// A number of the stream, or the length of a range, and whether the run goes on behind it. Where it does not, nothing more is read.
 pub struct Taken {
-    pub there: bool,
+    pub stream: Stream,
     pub value: u64,
 }
 
-// The next number of eight bytes.
-pub fn take_number() -> Taken {
-    let mut bytes = [0u8; 8];
-    let n = io::read_full(0, &mut bytes);
+pub fn goes_on(stream: Stream) -> bool {
+    match stream {
+        Stream::On => true,
+        Stream::Cut | Stream::TooLong | Stream::Unknown => false,
+    }
+}
+
+// The first n elements of a slice, or all of it where it has fewer.
+pub fn part(s: &[u8], n: u64) -> &[u8] {
+    let end = n as usize;
+    if s.len() < end {
+        return s;
+    }
+    &s[..end]
+}
+
+pub fn part_mut(s: &mut [u8], n: u64) -> &mut [u8] {
+    let end = n as usize;
+    if s.len() < end {
+        return s;
+    }
+    &mut s[..end]
+}
+
+pub fn packets_part(s: &[u32], n: u64) -> &[u32] {
+    let end = n as usize;
+    if s.len() < end {
+        return s;
+    }
+    &s[..end]
+}
+
+pub fn packets_part_mut(s: &mut [u32], n: u64) -> &mut [u32] {
+    let end = n as usize;
+    if s.len() < end {
+        return s;
+    }
+    &mut s[..end]
+}
+
+// What stands before the first number of a case.
+pub fn start() -> Taken {
     Taken {
-        there: n == 8,
+        stream: Stream::On,
+        value: 0,
+    }
+}
+
+// Reads the next n bytes into the start of a buffer that has room for them.
+fn take_bytes(before: Taken, buffer: &mut [u8], n: u64) -> Stream {
+    let stream = before.stream;
+    if !goes_on(stream) {
+        return stream;
+    }
+    let got = io::read_full(0, part_mut(buffer, n));
+    if (got as u64) < n {
+        return Stream::Cut;
+    }
+    stream
+}
+
+// The next number of w bytes, at most eight.
+fn take_field(before: Taken, w: u64) -> Taken {
+    let mut bytes = [0u8; 8];
+    let stream = take_bytes(before, &mut bytes, w);
+    Taken {
+        stream,
         value: fields::le_u64(&bytes, 0),
     }
 }
 
-// The next four-byte length or packet.
-pub fn take_word() -> Taken {
-    let mut bytes = [0u8; 4];
-    let n = io::read_full(0, &mut bytes);
-    Taken {
-        there: n == 4,
-        value: fields::le_u32(&bytes, 0) as u64,
-    }
+// The next number of eight bytes.
+pub fn take_number(before: Taken) -> Taken {
+    take_field(before, 8)
 }
 
-// A number as a 32-bit argument: the largest one where it is larger.
-pub fn narrow(n: u64) -> u32 {
-    if n > 4294967295 {
-        return 4294967295;
-    }
-    n as u32
-}
-
-// The first n elements of a slice, or all of it where it has fewer.
-pub fn part(s: &[u8], n: usize) -> &[u8] {
-    if s.len() < n {
-        return s;
-    }
-    &s[..n]
-}
-
-pub fn part_mut(s: &mut [u8], n: usize) -> &mut [u8] {
-    if s.len() < n {
-        return s;
-    }
-    &mut s[..n]
-}
-
-pub fn packets_part(s: &[u32], n: usize) -> &[u32] {
-    if s.len() < n {
-        return s;
-    }
-    &s[..n]
-}
-
-pub fn packets_part_mut(s: &mut [u32], n: usize) -> &mut [u32] {
-    if s.len() < n {
-        return s;
-    }
-    &mut s[..n]
-}
-
-// The next length, of at most `most` elements; CUT or TOO_LONG where the run ends.
-fn take_length(most: usize) -> usize {
-    let n = take_word();
-    if !n.there {
-        return CUT;
-    }
-    if n.value > most as u64 {
-        return TOO_LONG;
-    }
-    n.value as usize
-}
-
-// Reads the next range into the start of a buffer of MOST_BYTES: its length, CUT or TOO_LONG.
-pub fn take_range(buffer: &mut [u8]) -> usize {
-    let n = take_length(MOST_BYTES);
-    if n > MOST_BYTES {
-        return n;
-    }
-    let got = io::read_full(0, part_mut(buffer, n));
-    if got < n {
-        return CUT;
+// The next length, of at most `most` elements.
+fn take_length(before: Taken, most: u64) -> Taken
+    ensures { λ r. ⌜ r .value ≤ most ⌝ }
+{
+    let n = take_field(before, 4);
+    if n.value > most {
+        return Taken {
+            stream: Stream::TooLong,
+            value: 0,
+        };
     }
     n
+}
+
+// Reads the next range into the start of a buffer of MOST_BYTES.
+pub fn take_range(before: Taken, buffer: &mut [u8]) -> Taken {
+    let n = take_length(before, MOST_BYTES);
+    let stream = take_bytes(n, buffer, n.value);
+    Taken {
+        stream,
+        value: n.value,
+    }
 }
 
 // Fills a slice with one byte.
@@ -115,40 +137,43 @@ fn fill_packets(s: &mut [u32], p: u32) {
     }
 }
 
-// Lends the next output, at the start of a buffer of MOST_BYTES: its length, CUT or TOO_LONG.
-pub fn take_output(buffer: &mut [u8]) -> usize {
-    let n = take_length(MOST_BYTES);
-    if n > MOST_BYTES {
-        return n;
+// A number as a 32-bit argument: the largest one where it is larger.
+pub fn narrow(n: u64) -> u32 {
+    if n > 0xffff_ffff {
+        return 0xffff_ffff;
     }
-    let mut one = [0u8; 1];
-    let got = io::read_full(0, &mut one);
-    if got < 1 {
-        return CUT;
-    }
-    fill(part_mut(buffer, n), one[0]);
-    n
+    n as u32
 }
 
-// Lends the next packet output, at the start of a buffer of MOST_PACKETS: its length, CUT or TOO_LONG.
-pub fn take_packet_output(buffer: &mut [u32]) -> usize {
-    let n = take_length(MOST_PACKETS);
-    if n > MOST_PACKETS {
-        return n;
+// Lends the next output, at the start of a buffer of MOST_BYTES.
+pub fn take_output(before: Taken, buffer: &mut [u8]) -> Taken {
+    let n = take_length(before, MOST_BYTES);
+    let b = take_field(n, 1);
+    fill(part_mut(buffer, n.value), (b.value % 256) as u8);
+    let stream = b.stream;
+    Taken {
+        stream,
+        value: n.value,
     }
-    let p = take_word();
-    if !p.there {
-        return CUT;
+}
+
+// Lends the next packet output, at the start of a buffer of MOST_PACKETS.
+pub fn take_packet_output(before: Taken, buffer: &mut [u32]) -> Taken {
+    let n = take_length(before, MOST_PACKETS);
+    let p = take_field(n, 4);
+    fill_packets(packets_part_mut(buffer, n.value), narrow(p.value));
+    let stream = p.stream;
+    Taken {
+        stream,
+        value: n.value,
     }
-    fill_packets(packets_part_mut(buffer, n), narrow(p.value));
-    n
 }
 
 // Reads the packets of a slice out of little-endian bytes.
 fn read_packets(bytes: &[u8], packets: &mut [u32]) {
-    let mut i = 0;
+    let mut i: usize = 0;
     while i < packets.len() {
-        if i > MOST_PACKETS {
+        if i > 4096 {
             return;
         }
         packets[i] = fields::le_u32(bytes, 4 * i);
@@ -156,17 +181,14 @@ fn read_packets(bytes: &[u8], packets: &mut [u32]) {
     }
 }
 
-// Reads the next packet range into the start of a buffer of MOST_PACKETS: its length, CUT or TOO_LONG.
-pub fn take_packets(buffer: &mut [u32]) -> usize {
-    let n = take_length(MOST_PACKETS);
-    if n > MOST_PACKETS {
-        return n;
-    }
+// Reads the next packet range into the start of a buffer of MOST_PACKETS.
+pub fn take_packets(before: Taken, buffer: &mut [u32]) -> Taken {
+    let n = take_length(before, MOST_PACKETS);
     let mut bytes = [0u8; 16384];
-    let got = io::read_full(0, part_mut(&mut bytes, 4 * n));
-    if got < 4 * n {
-        return CUT;
+    let stream = take_bytes(n, &mut bytes, 4 * n.value);
+    read_packets(&bytes, packets_part_mut(buffer, n.value));
+    Taken {
+        stream,
+        value: n.value,
     }
-    read_packets(&bytes, packets_part_mut(buffer, n));
-    n
 }

@@ -1,4 +1,6 @@
 // Reads calls from standard input, runs them, and writes a line for each.
+use input::Stream;
+
 mod input;
 mod output;
 mod packing;
@@ -9,10 +11,8 @@ mod volumes;
 // The most calls of one run.
 const MOST_CALLS: u64 = 1000000000;
 
-// Runs the case of a call byte: 0, or why the run ends. UNKNOWN stands for a byte that names no call.
-const UNKNOWN: usize = 3000000;
-
-fn run_case(call: u8) -> usize {
+// Runs the case of a call byte: whether the run goes on behind it, or why it ends.
+fn run_case(call: u8) -> Stream {
     match call {
         1 => volumes::check_volume(),
         2 => volumes::decode(),
@@ -26,21 +26,18 @@ fn run_case(call: u8) -> usize {
         10 => volumes::console_check_volume(),
         11 => packing::console_pack(),
         12 => packing::console_unpack(),
-        _ => UNKNOWN,
+        _ => Stream::Unknown,
     }
 }
 
 // The last line of a run that ends early.
-fn put_end(end: usize) {
-    if end == input::CUT {
-        output::put_text(b"cut\n");
-        return;
+fn put_end(stream: Stream) {
+    match stream {
+        Stream::On => {}
+        Stream::Cut => output::put_text(b"cut\n"),
+        Stream::TooLong => output::put_text(b"too long\n"),
+        Stream::Unknown => output::put_text(b"unknown\n"),
     }
-    if end == input::TOO_LONG {
-        output::put_text(b"too long\n");
-        return;
-    }
-    output::put_text(b"unknown\n");
 }
 
 // Runs the next case; whether the run goes on.
@@ -50,12 +47,9 @@ fn next_case() -> bool {
     if n == 0 {
         return false;
     }
-    let end = run_case(call[0]);
-    if end == 0 {
-        return true;
-    }
-    put_end(end);
-    false
+    let stream = run_case(call[0]);
+    put_end(stream);
+    input::goes_on(stream)
 }
 
 fn main() {

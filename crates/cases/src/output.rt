@@ -1,5 +1,6 @@
 // The line of a case on standard output: numbers in decimal, outputs in hex.
 use crate::input::part;
+use answers::Refusal;
 use libc::STDOUT_FILENO;
 
 // The hex digit of a number, by its remainder.
@@ -17,6 +18,11 @@ pub fn put_text(text: &[u8]) {
 
 pub fn put_number(n: u64) {
     io::print_decimal(STDOUT_FILENO, n);
+}
+
+// The number of a refusal.
+pub fn put_refusal(r: Refusal) {
+    put_number(answers::number(r) as u64);
 }
 
 // A number, after a space.
@@ -60,7 +66,7 @@ pub fn put_hex(bytes: &[u8]) {
     let mut text = [0u8; 32768];
     spell(bytes, &mut text);
     put_text(b" ");
-    put_text(part(&text, 2 * bytes.len()));
+    put_text(part(&text, 2 * (bytes.len() as u64)));
 }
 
 // Writes the bytes of some packets, each with its highest byte first, as far as there is room.
@@ -85,7 +91,7 @@ pub fn put_packets(packets: &[u32]) {
     }
     let mut bytes = [0u8; 16384];
     turn(packets, &mut bytes);
-    put_hex(part(&bytes, 4 * packets.len()));
+    put_hex(part(&bytes, 4 * (packets.len() as u64)));
 }
 
 pub fn end_line() {

@@ -1,13 +1,16 @@
 // The header record calls: 7 identifier, 8 walker step, 9 label.
-use crate::input::CUT;
-use crate::input::MOST_BYTES;
+use crate::input::Stream;
+use crate::input::Taken;
+use crate::input::goes_on;
 use crate::input::part;
+use crate::input::start;
 use crate::input::take_number;
 use crate::input::take_range;
 use crate::output::end_line;
 use crate::output::put_hex;
 use crate::output::put_next;
 use crate::output::put_number;
+use crate::output::put_refusal;
 use crate::output::put_signed;
 use deflines::Identifier;
 use deflines::IdentifierAnswer;
@@ -45,7 +48,7 @@ fn put_identifier(identifier: Identifier) {
 
 fn put_identifier_answer(answer: IdentifierAnswer) {
     match answer {
-        IdentifierAnswer::Refused(r) => put_number(answers::number(r) as u64),
+        IdentifierAnswer::Refused(r) => put_refusal(r),
         IdentifierAnswer::Found(identifier) => {
             put_number(0);
             put_identifier(identifier);
@@ -55,7 +58,7 @@ fn put_identifier_answer(answer: IdentifierAnswer) {
 
 fn put_title_answer(answer: TitleAnswer) {
     match answer {
-        TitleAnswer::Refused(r) => put_number(answers::number(r) as u64),
+        TitleAnswer::Refused(r) => put_refusal(r),
         TitleAnswer::Title(span) => {
             put_number(0);
             put_next(span.start as u64);
@@ -66,74 +69,77 @@ fn put_title_answer(answer: TitleAnswer) {
 
 // The arguments after a header file: a record's start and end, and a number.
 struct Record {
-    there: bool,
+    stream: Stream,
     start: u64,
     end: u64,
     number: u64,
 }
 
-fn take_place() -> Record {
-    let start = take_number();
-    let end = take_number();
-    let number = take_number();
+fn take_record(before: Taken) -> Record {
+    let first = take_number(before);
+    let end = take_number(first);
+    let number = take_number(end);
+    let stream = number.stream;
     Record {
-        there: number.there,
-        start: start.value,
+        stream,
+        start: first.value,
         end: end.value,
         number: number.value,
     }
 }
 
-pub fn find_identifier() -> usize {
+pub fn find_identifier() -> Stream {
     let mut header = [0u8; 16384];
-    let h = take_range(&mut header);
-    if h > MOST_BYTES {
-        return h;
+    let h = take_range(start(), &mut header);
+    let record = take_record(h);
+    let stream = record.stream;
+    if !goes_on(stream) {
+        return stream;
     }
-    let place = take_place();
-    if !place.there {
-        return CUT;
-    }
-    let answer = deflines::find_identifier(part(&header, h), place.start, place.end, place.number);
-    put_identifier_answer(answer);
+    put_identifier_answer(deflines::find_identifier(
+        part(&header, h.value),
+        record.start,
+        record.end,
+        record.number,
+    ));
     end_line();
-    0
+    stream
 }
 
-pub fn step_on() -> usize {
+pub fn step_on() -> Stream {
     let mut header = [0u8; 16384];
-    let h = take_range(&mut header);
-    if h > MOST_BYTES {
-        return h;
+    let h = take_range(start(), &mut header);
+    let record = take_record(h);
+    let stream = record.stream;
+    if !goes_on(stream) {
+        return stream;
     }
-    let place = take_place();
-    if !place.there {
-        return CUT;
-    }
-    let step = labels::next_title(part(&header, h), place.start, place.end, place.number);
+    let step = labels::next_title(
+        part(&header, h.value),
+        record.start,
+        record.end,
+        record.number,
+    );
     let answer = step.answer;
     put_title_answer(answer);
     end_line();
-    0
+    stream
 }
 
-pub fn label() -> usize {
+pub fn label() -> Stream {
     let mut index = [0u8; 16384];
-    let i = take_range(&mut index);
-    if i > MOST_BYTES {
-        return i;
-    }
+    let i = take_range(start(), &mut index);
     let mut header = [0u8; 16384];
-    let h = take_range(&mut header);
-    if h > MOST_BYTES {
-        return h;
+    let h = take_range(i, &mut header);
+    let number = take_number(h);
+    let stream = number.stream;
+    if !goes_on(stream) {
+        return stream;
     }
-    let number = take_number();
-    if !number.there {
-        return CUT;
-    }
-    put_number(labels::label_number(part(&index, i), part(&header, h), number.value) as u64);
-    put_hex(labels::label_part(part(&index, i), part(&header, h), number.value));
+    put_number(
+        labels::label_number(part(&index, i.value), part(&header, h.value), number.value) as u64,
+    );
+    put_hex(labels::label_part(part(&index, i.value), part(&header, h.value), number.value));
     end_line();
-    0
+    stream
 }

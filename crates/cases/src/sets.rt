@@ -1,13 +1,16 @@
 // The set calls: 5 set check, 6 lookup.
-use crate::input::CUT;
-use crate::input::MOST_BYTES;
+use crate::input::Stream;
+use crate::input::Taken;
+use crate::input::goes_on;
 use crate::input::narrow;
 use crate::input::part;
+use crate::input::start;
 use crate::input::take_number;
 use crate::input::take_range;
 use crate::output::end_line;
 use crate::output::put_next;
 use crate::output::put_number;
+use crate::output::put_refusal;
 use dsqdata::LookupAnswer;
 use dsqdata::SetAnswer;
 use dsqdata::SetRecord;
@@ -15,7 +18,7 @@ use dsqdata::SetRecord;
 // An answer's number and values.
 fn put_set_answer(answer: SetAnswer) {
     match answer {
-        SetAnswer::Refused(r) => put_number(answers::number(r) as u64),
+        SetAnswer::Refused(r) => put_refusal(r),
         SetAnswer::Passed(set) => {
             put_number(0);
             put_next(set.magic as u64);
@@ -34,7 +37,7 @@ fn put_set_answer(answer: SetAnswer) {
 
 fn put_lookup_answer(answer: LookupAnswer) {
     match answer {
-        LookupAnswer::Refused(r) => put_number(answers::number(r) as u64),
+        LookupAnswer::Refused(r) => put_refusal(r),
         LookupAnswer::Found {
             start,
             bytes,
@@ -50,44 +53,43 @@ fn put_lookup_answer(answer: LookupAnswer) {
     }
 }
 
-pub fn check_set() -> usize {
+pub fn check_set() -> Stream {
     let mut index = [0u8; 16384];
-    let i = take_range(&mut index);
-    if i > MOST_BYTES {
-        return i;
-    }
+    let i = take_range(start(), &mut index);
     let mut metadata = [0u8; 16384];
-    let m = take_range(&mut metadata);
-    if m > MOST_BYTES {
-        return m;
-    }
+    let m = take_range(i, &mut metadata);
     let mut sequence = [0u8; 16384];
-    let s = take_range(&mut sequence);
-    if s > MOST_BYTES {
-        return s;
+    let s = take_range(m, &mut sequence);
+    let stream = s.stream;
+    if !goes_on(stream) {
+        return stream;
     }
-    put_set_answer(dsqdata::check_set(part(&index, i), part(&metadata, m), part(&sequence, s)));
+    put_set_answer(dsqdata::check_set(
+        part(&index, i.value),
+        part(&metadata, m.value),
+        part(&sequence, s.value),
+    ));
     end_line();
-    0
+    stream
 }
 
-// The ten fields of a record, and whether all were there.
+// The ten fields of a record, and the last number taken.
 struct TakenRecord {
-    there: bool,
+    last: Taken,
     set: SetRecord,
 }
 
 fn take_record() -> TakenRecord {
-    let magic = take_number();
-    let tag = take_number();
-    let alphabet = take_number();
-    let flags = take_number();
-    let name = take_number();
-    let accession = take_number();
-    let description = take_number();
-    let longest = take_number();
-    let count = take_number();
-    let residues = take_number();
+    let magic = take_number(start());
+    let tag = take_number(magic);
+    let alphabet = take_number(tag);
+    let flags = take_number(alphabet);
+    let name = take_number(flags);
+    let accession = take_number(name);
+    let description = take_number(accession);
+    let longest = take_number(description);
+    let count = take_number(longest);
+    let residues = take_number(count);
     let set = SetRecord {
         magic: narrow(magic.value),
         tag: narrow(tag.value),
@@ -101,27 +103,23 @@ fn take_record() -> TakenRecord {
         residues: residues.value,
     };
     TakenRecord {
-        there: residues.there,
+        last: residues,
         set,
     }
 }
 
-pub fn look_up() -> usize {
+pub fn look_up() -> Stream {
     let taken = take_record();
-    if !taken.there {
-        return CUT;
-    }
+    let last = taken.last;
     let set = taken.set;
     let mut index = [0u8; 16384];
-    let i = take_range(&mut index);
-    if i > MOST_BYTES {
-        return i;
+    let i = take_range(last, &mut index);
+    let number = take_number(i);
+    let stream = number.stream;
+    if !goes_on(stream) {
+        return stream;
     }
-    let number = take_number();
-    if !number.there {
-        return CUT;
-    }
-    put_lookup_answer(dsqdata::lookup(set, part(&index, i), number.value));
+    put_lookup_answer(dsqdata::lookup(set, part(&index, i.value), number.value));
     end_line();
-    0
+    stream
 }

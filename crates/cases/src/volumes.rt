@@ -1,8 +1,9 @@
 // The volume calls: 1 volume check, 2 decode, 10 console volume check.
-use crate::input::CUT;
-use crate::input::MOST_BYTES;
+use crate::input::Stream;
+use crate::input::goes_on;
 use crate::input::part;
 use crate::input::part_mut;
+use crate::input::start;
 use crate::input::take_number;
 use crate::input::take_output;
 use crate::input::take_range;
@@ -10,13 +11,14 @@ use crate::output::end_line;
 use crate::output::put_hex;
 use crate::output::put_next;
 use crate::output::put_number;
+use crate::output::put_refusal;
 use sequence::DecodeAnswer;
 use volume::VolumeAnswer;
 
 // An answer's number and values.
 fn put_volume_answer(answer: VolumeAnswer) {
     match answer {
-        VolumeAnswer::Refused(r) => put_number(answers::number(r) as u64),
+        VolumeAnswer::Refused(r) => put_refusal(r),
         VolumeAnswer::Passed(v) => {
             put_number(0);
             put_next(v.kind as u64);
@@ -33,7 +35,7 @@ fn put_volume_answer(answer: VolumeAnswer) {
 
 fn put_decode_answer(answer: DecodeAnswer) {
     match answer {
-        DecodeAnswer::Refused(r) => put_number(answers::number(r) as u64),
+        DecodeAnswer::Refused(r) => put_refusal(r),
         DecodeAnswer::Decoded(l) => {
             put_number(0);
             put_next(l as u64);
@@ -41,88 +43,71 @@ fn put_decode_answer(answer: DecodeAnswer) {
     }
 }
 
-pub fn check_volume() -> usize {
+pub fn check_volume() -> Stream {
     let mut index = [0u8; 16384];
-    let i = take_range(&mut index);
-    if i > MOST_BYTES {
-        return i;
-    }
     let mut sequence = [0u8; 16384];
-    let s = take_range(&mut sequence);
-    if s > MOST_BYTES {
-        return s;
-    }
     let mut header = [0u8; 16384];
-    let h = take_range(&mut header);
-    if h > MOST_BYTES {
-        return h;
+    let i = take_range(start(), &mut index);
+    let s = take_range(i, &mut sequence);
+    let h = take_range(s, &mut header);
+    let stream = h.stream;
+    if !goes_on(stream) {
+        return stream;
     }
-    put_volume_answer(volume::check_volume(part(&index, i), part(&sequence, s), part(&header, h)));
+    put_volume_answer(volume::check_volume(
+        part(&index, i.value),
+        part(&sequence, s.value),
+        part(&header, h.value),
+    ));
     end_line();
-    0
+    stream
 }
 
-pub fn decode() -> usize {
+pub fn decode() -> Stream {
     let mut index = [0u8; 16384];
-    let i = take_range(&mut index);
-    if i > MOST_BYTES {
-        return i;
-    }
+    let i = take_range(start(), &mut index);
     let mut sequence = [0u8; 16384];
-    let s = take_range(&mut sequence);
-    if s > MOST_BYTES {
-        return s;
-    }
-    let number = take_number();
-    if !number.there {
-        return CUT;
-    }
+    let s = take_range(i, &mut sequence);
+    let number = take_number(s);
     let mut out = [0u8; 16384];
-    let k = take_output(&mut out);
-    if k > MOST_BYTES {
-        return k;
+    let k = take_output(number, &mut out);
+    let stream = k.stream;
+    if !goes_on(stream) {
+        return stream;
     }
     let answer = sequence::decode(
-        part(&index, i),
-        part(&sequence, s),
+        part(&index, i.value),
+        part(&sequence, s.value),
         number.value,
-        part_mut(&mut out, k),
+        part_mut(&mut out, k.value),
     );
     put_decode_answer(answer);
-    put_hex(part(&out, k));
+    put_hex(part(&out, k.value));
     end_line();
-    0
+    stream
 }
 
-pub fn console_check_volume() -> usize {
+pub fn console_check_volume() -> Stream {
     let mut index = [0u8; 16384];
-    let i = take_range(&mut index);
-    if i > MOST_BYTES {
-        return i;
-    }
     let mut sequence = [0u8; 16384];
-    let s = take_range(&mut sequence);
-    if s > MOST_BYTES {
-        return s;
-    }
     let mut header = [0u8; 16384];
-    let h = take_range(&mut header);
-    if h > MOST_BYTES {
-        return h;
-    }
     let mut results = [0u8; 16384];
-    let k = take_output(&mut results);
-    if k > MOST_BYTES {
-        return k;
+    let i = take_range(start(), &mut index);
+    let s = take_range(i, &mut sequence);
+    let h = take_range(s, &mut header);
+    let k = take_output(h, &mut results);
+    let stream = k.stream;
+    if !goes_on(stream) {
+        return stream;
     }
     let answer = console::gull_check_volume(
-        part(&index, i),
-        part(&sequence, s),
-        part(&header, h),
-        part_mut(&mut results, k),
+        part(&index, i.value),
+        part(&sequence, s.value),
+        part(&header, h.value),
+        part_mut(&mut results, k.value),
     );
     put_number(answer as u64);
-    put_hex(part(&results, k));
+    put_hex(part(&results, k.value));
     end_line();
-    0
+    stream
 }
