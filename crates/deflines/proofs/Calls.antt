@@ -1,7 +1,7 @@
 -- The calls over one record: the check decides first. Assumes nothing.
 use mathlib.Core.Path.{_≡_, refl}
 use mathlib.Core.List.{List, [], _∷_, append-nil, flatMap}
-use Prim.Native.Nat.{ℕ, suc, _+_, _≤_}
+use Prim.Native.Nat.{ℕ, _+_, _-_, _≤_}
 use native.Mathlib.Omega.{arith}
 use lib.ListN.{length, take}
 use Rattle.answers.specs.declared.Refusal.{Refusal}
@@ -19,7 +19,7 @@ use Rattle.deflines.specs.declared.TitleSearch.the-variants as A
 use Rattle.deflines.specs.declared.PlaceSearch.the-variants as P
 use Rattle.deflines.specs.Fields.{elementsIn, titlesIn, firstTitles}
 use Rattle.deflines.specs.Calls.{titleFrom, placeFrom, titleIn, titleOf, identifierIn, identifierOf, firstIn, firstOf}
-use Rattle.deflines.proofs.Walks.{place-room}
+use Rattle.deflines.proofs.Walks.{elements-below, place-below}
 
 -- ---- the first def-line
 
@@ -45,7 +45,7 @@ module _ (s : List ℕ) (start : ℕ) where
 
   -- an element inside has two bytes
   pub line-room : (k line : ℕ) → placeFrom (elementsIn s start) k ≡ P.Found line → line + 2 ≤ length s
-  line-room k line e = place-room s (suc (length s)) (start + 2) k line e
+  line-room k line e = let h = place-below (length s - 1) (elementsIn s start) k line (elements-below s (start + 2)) e in omega arith
 
 -- ---- after the check
 

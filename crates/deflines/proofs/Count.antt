@@ -5,35 +5,28 @@ use Prim.Native.Nat.{ℕ, zero, suc, _+_, _*_, _≤_, _<_}
 use native.Mathlib.Nat.{mul-le-mul}
 use native.Mathlib.Omega.{arith}
 use lib.ListN.{length, take, drop, length-append}
-use Rattle.laws.proofs.Choices.{cond-elim}
 use Rattle.answers.specs.declared.Checked.{Checked}
 use Rattle.answers.specs.declared.Checked.the-variants as C
 use Rattle.elements.specs.declared.Span.{Span}
-use Rattle.elements.specs.declared.ElementAnswer.{ElementAnswer}
-use Rattle.elements.specs.declared.ElementAnswer.the-variants.{End, Refused}
-use Rattle.elements.specs.declared.Form.the-variants as F
-use Rattle.elements.specs.Reading.{closes, read}
 use Rattle.headers.specs.Record.{checkRecord}
+use Rattle.deflines.specs.declared.Next.{Next}
 use Rattle.deflines.specs.declared.Field.{Field}
 use Rattle.deflines.specs.declared.Field.the-variants as L
 use Rattle.deflines.specs.declared.TitleAnswer.the-variants as T
 use Rattle.deflines.specs.declared.TitleSearch.the-variants as A
-use Rattle.deflines.specs.Fields.{fromElement, elementsFrom, elementsIn, fieldAt, fieldTitles, titlesIn, titlesOf}
+use Rattle.deflines.specs.Fields.{fromNext, elementsFrom, elementsIn, fieldAt, fieldTitles, titlesIn, titlesOf}
 use Rattle.deflines.specs.Calls.{titleFrom, titleGiven, titleIn, titleOf}
+use Rattle.deflines.proofs.Walks.{next-cases}
 use Rattle.deflines.proofs.Calls.{passed-small}
 
 -- ---- lengths
-
-from-length : (x : ElementAnswer) (p m : ℕ) (rest : ℕ → List ℕ) → ((n : ℕ) → length (rest n) ≤ m) → length (fromElement x (λ n. p ∷ rest n)) ≤ suc m
-from-length (End n) p m rest h = let k = h n in omega arith
-from-length (Refused r) p m rest h = omega arith
 
 elements-length : (turns : ℕ) (s : List ℕ) (p : ℕ) → length (elementsFrom turns s p) ≤ turns
 unfolding elementsFrom
 elements-length zero s p = omega arith
 elements-length (suc turns) s p =
-    cond-elim (λ (l : List ℕ). length l ≤ suc turns) (closes s p) (λ _. omega arith)
-    (λ _. from-length (read 16 F.Any s p) p turns (elementsFrom turns s) (λ n. elements-length turns s n))
+    next-cases s p (λ (x : Next). length (fromNext x (λ n. p ∷ elementsFrom turns s n)) ≤ suc turns) (omega arith)
+    (λ n a b. let h = elements-length turns s n in omega arith)
 
 flat-length : {X : Type 0} (m : ℕ) (f : ℕ → List X) (xs : List ℕ) → ((p : ℕ) → length (f p) ≤ m) → length (flatMap f xs) ≤ length xs * m
 unfolding flatMap
@@ -77,7 +70,8 @@ found-below [] k t e = absurd (let z : _≡_ {A = ℕ} 0 1 = cc in omega arith)
 found-below (x ∷ ts) zero t e = omega arith
 found-below (x ∷ ts) (suc k) t e = let h = found-below ts k t e in omega arith
 
-bounded : (s : List ℕ) (start given : ℕ) (c : Checked) (t : Span) → (c ≡ C.Passed → length s ≤ 2147483647) → titleIn s start given c ≡ T.Title t → given < 4611686018427387904
+bounded : (s : List ℕ) (start given : ℕ) (c : Checked) (t : Span) → (c ≡ C.Passed → length s ≤ 2147483647)
+    → titleIn s start given c ≡ T.Title t → given < 4611686018427387904
 bounded s start given C.Passed t h e =
     let l : length s ≤ 2147483647 = h refl in
     let m : suc (length s) ≤ 2147483648 = omega arith in

@@ -1,4 +1,5 @@
 pub mod Walks
+pub mod Fields
 pub mod Identifiers
 pub mod Calls
 pub mod Count

@@ -1,120 +1,110 @@
--- The walks over def-lines, fields and identifiers: one turn passes one element. Assumes nothing.
+-- The walks over def-lines, fields and identifiers: one turn passes one element of a list. Assumes nothing.
 use mathlib.Core.Path.{_≡_, refl, sym, ap, _∙_}
 use mathlib.Core.List.{List, [], _∷_, _++_, flatMap}
-use mathlib.Core.Bool.{true, false}
-use mathlib.Core.Logic.{⊎-elim}
+use mathlib.Core.Bool.{Bool, true, false}
 use Prim.Native.Nat.{ℕ, zero, suc, _+_, _-_, _≤_, _<_}
 use native.Mathlib.Omega.{arith}
-use borrow.Author.Tests.{eq-eqb, ne-eqb}
-use lib.ListN.{length, getD}
-use lib.Dec.{eqb}
-use types.Run.{OneOf}
-use denote.Enum.Declared.{tagOf}
-use Rattle.laws.proofs.Tests.{bool-cases}
+use lib.ListN.{length}
+use Rattle.laws.specs.Digits.{allBelow}
+use Rattle.laws.proofs.Digits.{below-parts, below-cons, below-none}
 use Rattle.laws.proofs.Choices.{cond-elim}
-use Rattle.answers.specs.declared.Refusal.{Refusal}
 use Rattle.elements.specs.declared.Span.{Span}
-use Rattle.elements.specs.declared.SpanAnswer.{SpanAnswer}
-use Rattle.elements.specs.declared.SpanAnswer.the-variants as S
 use Rattle.elements.specs.declared.ElementAnswer.{ElementAnswer}
 use Rattle.elements.specs.declared.ElementAnswer.the-variants.{End, Refused}
 use Rattle.elements.specs.declared.Form.the-variants as F
-use Rattle.elements.specs.Parts.{textAt}
-use Rattle.elements.specs.Reading.{bad, closes, read}
-use Rattle.elements.proofs.Reading.{closes-late, start-none, ends-within}
-use Rattle.deflines.proofs.Field as K
-use Rattle.deflines.specs.declared.Field.{Field}
-use Rattle.deflines.specs.declared.Field.the-variants as L
+use Rattle.elements.specs.Reading.{closes, read}
+use Rattle.elements.proofs.Reading.{ends-within}
+use Rattle.deflines.specs.declared.Next.{Next}
+use Rattle.deflines.specs.declared.Next.the-variants as N
+use Rattle.deflines.specs.declared.TitleSearch.{TitleSearch}
 use Rattle.deflines.specs.declared.TitleSearch.the-variants as A
+use Rattle.deflines.specs.declared.PlaceSearch.{PlaceSearch}
 use Rattle.deflines.specs.declared.PlaceSearch.the-variants as P
-use Rattle.deflines.specs.Fields.{fromElement, elementsFrom, titleField, fieldAt, fieldTitles, fieldIdentifiers}
+use Rattle.deflines.specs.Fields.{nextRead, nextAt, fromNext, elementsFrom, elementsLeft}
 use Rattle.deflines.specs.Calls.{numbered, placeFrom}
 
--- ---- number k of two lists, one after the other
+-- ---- what comes next in a list
 
-module _ {X Y : Type 0} (found : X → Y) (left : ℕ → Y) (same : (i j : ℕ) → left i ≡ left j → i ≡ j) (other : (x : X) (j : ℕ) → found x ≡ left j → ⊥) where
-  numbered-left : (xs ys : List X) (k j : ℕ) → numbered xs k found left ≡ left j → numbered (xs ++ ys) k found left ≡ numbered ys j found left
-  numbered-left [] ys k j e = ap (λ (i : ℕ). numbered ys i found left) (same k j e)
-  numbered-left (x ∷ xs) ys zero j e = absurd (other x j e)
-  numbered-left (x ∷ xs) ys (suc k) j e = numbered-left xs ys k j e
+module _ (s : List ℕ) (p : ℕ) where
+  pub next-closed : closes s p ≡ true → N.NoMore ≡ nextAt s p
+  unfolding nextAt
+  next-closed c = rw c
 
-  numbered-found : (xs ys : List X) (k : ℕ) (x : X) → numbered xs k found left ≡ found x → numbered (xs ++ ys) k found left ≡ found x
-  numbered-found [] ys k x e = absurd (other x k (sym e))
-  numbered-found (y ∷ xs) ys zero x e = e
-  numbered-found (y ∷ xs) ys (suc k) x e = numbered-found xs ys k x e
+  pub next-read : {x z : ElementAnswer} → closes s p ≡ false → x ≡ read 16 F.Any s p → x ≡ z → nextRead z ≡ nextAt s p
+  unfolding nextAt
+  next-read c e q = rw (c, ← e, q)
 
--- ---- the elements from a place on
+  read-cases : (P : Next → Type 0) (x : ElementAnswer) → read 16 F.Any s p ≡ x → P N.NoMore
+      → ((n : ℕ) → p + 1 < n → n ≤ length s → P (N.Element n)) → P (nextRead x)
+  read-cases P (End n) e none more = let w = ends-within 16 F.Any s p n e in more n (w .0) (w .1)
+  read-cases P (Refused r) e none more = none
 
-pub from-close : (turns : ℕ) (s : List ℕ) (p : ℕ) → closes s p ≡ true → elementsFrom turns s p ≡ []
+  -- the next element has two bytes, and ends within the bytes
+  pub next-cases : (P : Next → Type 0) → P N.NoMore → ((n : ℕ) → p + 1 < n → n ≤ length s → P (N.Element n)) → P (nextAt s p)
+  unfolding nextAt
+  next-cases P none more = cond-elim P (closes s p) (λ _. none) (λ _. read-cases P (read 16 F.Any s p) refl none more)
+
+  pub next-within : (n : ℕ) → nextAt s p ≡ N.Element n → (p + 1 < n) × (n ≤ length s)
+  next-within n =
+      next-cases (λ (x : Next). x ≡ N.Element n → (p + 1 < n) × (n ≤ length s))
+      (λ e. absurd (let z : _≡_ {A = ℕ} 0 1 = cc in omega arith))
+      (λ m a b e. let z : m ≡ n = cc in (omega arith, omega arith))
+
+-- ---- what is left of a list
+
+-- one turn more finds no more, once there are as many as bytes
+enough : (turns : ℕ) (s : List ℕ) (p : ℕ) → length s < turns + p → elementsFrom turns s p ≡ elementsFrom (suc turns) s p
 unfolding elementsFrom
-from-close zero s p c = refl
-from-close (suc turns) s p c = rw c
+enough zero s p l = next-cases s p (λ (x : Next). [] ≡ fromNext x (λ n. p ∷ [])) refl (λ n a b. absurd (omega arith))
+enough (suc turns) s p l =
+    next-cases s p (λ (x : Next). fromNext x (λ n. p ∷ elementsFrom turns s n) ≡ fromNext x (λ n. p ∷ elementsFrom (suc turns) s n)) refl
+    (λ n a b. ap (λ (xs : List ℕ). p ∷ xs) (enough turns s n (omega arith)))
 
-pub from-refused : (turns : ℕ) (s : List ℕ) (p : ℕ) (r : Refusal) → read 16 F.Any s p ≡ Refused r → elementsFrom turns s p ≡ []
+pub left-none : (s : List ℕ) (p : ℕ) → nextAt s p ≡ N.NoMore → elementsLeft s p ≡ []
 unfolding elementsFrom
-from-refused zero s p r e = refl
-from-refused (suc turns) s p r e = bool-cases (closes s p) (λ c. rw c) (λ c. rw (c, e))
+left-none s p e = rw e
 
-pub from-passed : (turns : ℕ) (s : List ℕ) (p n : ℕ) → 0 < turns → closes s p ≡ false → read 16 F.Any s p ≡ End n
-    → elementsFrom turns s p ≡ p ∷ elementsFrom (turns - 1) s n
+pub left-next : (s : List ℕ) (p n : ℕ) → nextAt s p ≡ N.Element n → elementsLeft s p ≡ p ∷ elementsLeft s n
 unfolding elementsFrom
-from-passed turns s p n l c e = let f : turns ≡ suc (turns - 1) = omega arith in ap (λ (t : ℕ). elementsFrom t s p) f ∙ rw (c, e)
+left-next s p n e =
+    let w = next-within s p n e in
+    let f : elementsFrom (length s) s n ≡ elementsLeft s n = enough (length s) s n (omega arith) in
+    rw (e, f)
 
-read-late : (s : List ℕ) (at : ℕ) → length s ≤ at → read 16 F.Any s at ≡ bad
-unfolding read
-read-late s at h = rw (← start-none F.Any s at h)
-
--- no element stands past the end
-pub from-late : (turns : ℕ) (s : List ℕ) (p : ℕ) → length s ≤ p → elementsFrom turns s p ≡ []
+-- each element has two bytes
+from-below : (turns : ℕ) (s : List ℕ) (p : ℕ) → allBelow (length s - 1) (elementsFrom turns s p) ≡ true
 unfolding elementsFrom
-from-late zero s p h = refl
-from-late (suc turns) s p h =
-    let k : length s ≤ p + 1 = omega arith in
-    rw (← closes-late s p k, read-late s p h)
+from-below zero s p = below-none (length s - 1)
+from-below (suc turns) s p =
+    let m = length s - 1 in
+    next-cases s p (λ (x : Next). allBelow m (fromNext x (λ n. p ∷ elementsFrom turns s n)) ≡ true) (below-none m)
+    (λ n a b. below-cons m p (elementsFrom turns s n) (omega arith) (from-below turns s n))
 
--- ---- a turn of a walk that looks for number k of what the elements hold
+pub elements-below : (s : List ℕ) (p : ℕ) → allBelow (length s - 1) (elementsLeft s p) ≡ true
+elements-below s p = from-below (suc (length s)) s p
 
-module _ {X Y : Type 0} (found : X → Y) (left : ℕ → Y) (same : (i j : ℕ) → left i ≡ left j → i ≡ j) (other : (x : X) (j : ℕ) → found x ≡ left j → ⊥)
-    (f : ℕ → List X) (s : List ℕ) where
-  -- what is left to look through
-  abbrev pub rest : ℕ → ℕ → ℕ → Y
-  rest turns p k = numbered (flatMap f (elementsFrom turns s p)) k found left
+pub place-below : (m : ℕ) (xs : List ℕ) (k q : ℕ) → allBelow m xs ≡ true → placeFrom xs k ≡ P.Found q → q < m
+place-below m [] k q h e = absurd (let z : _≡_ {A = ℕ} 0 1 = cc in omega arith)
+place-below m (x ∷ xs) zero q h e = let z : x ≡ q = cc in let p = below-parts m x xs h .0 in omega arith
+place-below m (x ∷ xs) (suc k) q h e = place-below m xs k q (below-parts m x xs h .1) e
 
-  module _ (turns p k : ℕ) where
-    pub walk-close : closes s p ≡ true → left k ≡ rest turns p k
-    unfolding flatMap
-    walk-close c = rw (from-close turns s p c)
+-- ---- searches for number k of a list
 
-    pub walk-refused : (r : Refusal) → read 16 F.Any s p ≡ Refused r → left k ≡ rest turns p k
-    unfolding flatMap
-    walk-refused r e = rw (from-refused turns s p r e)
+-- What a search makes of number k, and of how many are left to pass where there are fewer.
+pub record Search (X Y : Type 0) : Type 0 where
+  pub found : X → Y
+  pub left : ℕ → Y
+  pub same : (i j : ℕ) → left i ≡ left j → i ≡ j
+  pub other : (x : X) (j : ℕ) → found x ≡ left j → ⊥
 
-    module _ (n : ℕ) (l : 0 < turns) (c : closes s p ≡ false) (e : read 16 F.Any s p ≡ End n) where
-      turn : rest turns p k ≡ numbered (f p ++ flatMap f (elementsFrom (turns - 1) s n)) k found left
-      unfolding flatMap
-      turn = rw (from-passed turns s p n l c e)
-
-      pub walk-past : f p ≡ [] → rest turns p k ≡ rest (turns - 1) n k
-      walk-past z = turn ∙ rw z
-
-      pub walk-here : (x : X) → f p ≡ x ∷ [] → k ≡ 0 → rest turns p k ≡ found x
-      walk-here x z q = turn ∙ rw (z, q)
-
-      pub walk-next : (x : X) → f p ≡ x ∷ [] → (k ≡ 0 → ⊥) → rest turns p k ≡ rest (turns - 1) n (k - 1)
-      walk-next x z q = let j : k ≡ suc (k - 1) = omega arith in turn ∙ rw z (ap (λ (i : ℕ). numbered (x ∷ flatMap f (elementsFrom (turns - 1) s n)) i found left) j)
-
-      pub walk-inside : (x : X) → numbered (f p) k found left ≡ found x → rest turns p k ≡ found x
-      walk-inside x q = turn ∙ numbered-found found left same other (f p) (flatMap f (elementsFrom (turns - 1) s n)) k x q
-
-      pub walk-beyond : (j : ℕ) → numbered (f p) k found left ≡ left j → rest turns p k ≡ rest (turns - 1) n j
-      walk-beyond j q = turn ∙ numbered-left found left same other (f p) (flatMap f (elementsFrom (turns - 1) s n)) k j q
-
--- the two searches
 pub title-same : (i j : ℕ) → A.Left i ≡ A.Left j → i ≡ j
 title-same i j e = cc
 
 pub title-other : (x : Span) (j : ℕ) → A.Found x ≡ A.Left j → ⊥
 title-other x j e = let z : _≡_ {A = ℕ} 0 1 = cc in omega arith
+
+abbrev pub titles : Search Span TitleSearch
+titles = record { found = A.Found; left = A.Left; same = title-same; other = title-other }
 
 pub place-same : (i j : ℕ) → P.Left i ≡ P.Left j → i ≡ j
 place-same i j e = cc
@@ -122,63 +112,70 @@ place-same i j e = cc
 pub place-other : (x j : ℕ) → P.Found x ≡ P.Left j → ⊥
 place-other x j e = let z : _≡_ {A = ℕ} 0 1 = cc in omega arith
 
--- a list of places, each looked at by itself
-pub flat-each : (xs : List ℕ) → flatMap (λ p. p ∷ []) xs ≡ xs
+abbrev pub places : Search ℕ PlaceSearch
+places = record { found = P.Found; left = P.Left; same = place-same; other = place-other }
+
+module _ {X Y : Type 0} (S : Search X Y) where
+  abbrev pub search : List X → ℕ → Y
+  search xs k = numbered xs k (S .found) (S .left)
+
+  -- number k of two lists, one after the other
+  search-left : (xs ys : List X) (k j : ℕ) → search xs k ≡ S .left j → search (xs ++ ys) k ≡ search ys j
+  search-left [] ys k j e = ap (search ys) (S .same k j e)
+  search-left (x ∷ xs) ys zero j e = absurd (S .other x j e)
+  search-left (x ∷ xs) ys (suc k) j e = search-left xs ys k j e
+
+  search-found : (xs ys : List X) (k : ℕ) (x : X) → search xs k ≡ S .found x → search (xs ++ ys) k ≡ S .found x
+  search-found [] ys k x e = absurd (S .other x k (sym e))
+  search-found (y ∷ xs) ys zero x e = e
+  search-found (y ∷ xs) ys (suc k) x e = search-found xs ys k x e
+
+-- ---- the turns of a walk
+
+-- What is left from p on, with k to pass, gives the answer y of the whole walk; f is what an element holds.
+pub record Rest {X Y : Type 0} (S : Search X Y) (f : ℕ → List X) (s : List ℕ) (p k : ℕ) (y : Y) : Type 0 where
+  pub is : search S (flatMap f (elementsLeft s p)) k ≡ y
+
+-- The next element ends at n.
+pub record Turn {X Y : Type 0} {S : Search X Y} {f : ℕ → List X} {s : List ℕ} {p k : ℕ} {y : Y} (r : Rest S f s p k y) (n : ℕ) : Type 0 where
+  pub next : nextAt s p ≡ N.Element n
+
+-- a walk ends where no more comes next
+pub rest-none : {X Y : Type 0} {S : Search X Y} {f : ℕ → List X} {s : List ℕ} {p k : ℕ} {y : Y} → Rest S f s p k y → nextAt s p ≡ N.NoMore
+    → S .left k ≡ y
 unfolding flatMap
-flat-each [] = refl
-flat-each (x ∷ xs) = ap (λ (l : List ℕ). x ∷ l) (flat-each xs)
+rest-none {s} {p} r e = rw (left-none s p e) at (r .is)
 
--- ---- the fields of a def-line
+module _ {X Y : Type 0} {S : Search X Y} {f : ℕ → List X} {s : List ℕ} {p k : ℕ} {y : Y} {r : Rest S f s p k y} {n : ℕ} (t : Turn r n) where
+  pub turn-room : p + 2 ≤ length s
+  turn-room = let w = next-within s p n (t .next) in omega arith
 
-module _ (s : List ℕ) (p b : ℕ) (e : b ≡ getD s p 0) where
-  pub field-identifiers : b ≡ 161 → L.Identifiers (p + 2) ≡ fieldAt s p
-  unfolding fieldAt
-  field-identifiers q = rw (← e, eq-eqb _ _ q)
+  pub turn-less : length s - n < length s - p
+  turn-less = let w = next-within s p n (t .next) in omega arith
 
-  module _ (n : b ≡ 161 → ⊥) where
-    pub field-other : (b ≡ 160 → ⊥) → L.Other ≡ fieldAt s p
-    unfolding fieldAt
-    field-other q = rw (← e, ne-eqb _ _ n, ne-eqb _ _ q)
+  turned : search S (f p ++ flatMap f (elementsLeft s n)) k ≡ y
+  unfolding flatMap
+  turned = rw (left-next s p n (t .next)) at (r .is)
 
-    pub field-title : (x : SpanAnswer) → b ≡ 160 → x ≡ textAt s (p + 2) → titleField x ≡ fieldAt s p
-    unfolding fieldAt
-    field-title x q t = rw (← e, ne-eqb _ _ n, eq-eqb _ _ q, ← t)
+  -- the element holds what is looked for, or less than that
+  pub turn-found : (z : Y) (x : X) → z ≡ search S (f p) k → z ≡ S .found x → z ≡ y
+  turn-found z x q e = e ∙ sym (search-found S (f p) (flatMap f (elementsLeft s n)) k x (sym q ∙ e)) ∙ turned
 
--- a field that is no title holds none, and one that is no list of identifiers holds none
-pub no-title : (x : Field) → OneOf (1 ∷ 2 ∷ []) (tagOf K.the-type x) → fieldTitles x ≡ []
-no-title (L.Title t) o = absurd (⊎-elim (λ e. omega arith) (λ e. omega arith) o)
-no-title (L.Identifiers p) o = refl
-no-title L.Other o = refl
+  pub turn-left : (z : Y) (j : ℕ) → z ≡ search S (f p) k → z ≡ S .left j → Rest S f s n j y
+  turn-left z j q e = record { is = sym (search-left S (f p) (flatMap f (elementsLeft s n)) k j (sym q ∙ e)) ∙ turned }
 
-pub no-identifiers : (s : List ℕ) (x : Field) → OneOf (0 ∷ 2 ∷ []) (tagOf K.the-type x) → fieldIdentifiers s x ≡ []
-no-identifiers s (L.Title t) o = refl
-no-identifiers s (L.Identifiers p) o = absurd (⊎-elim (λ e. omega arith) (λ e. omega arith) o)
-no-identifiers s L.Other o = refl
+  -- the element holds nothing, or one
+  pub turn-past : f p ≡ [] → Rest S f s n k y
+  turn-past e = turn-left (S .left k) k (rw e) refl
 
--- the list of identifiers of a field stands two bytes behind its tag
-pub list-inside : (s : List ℕ) (p list : ℕ) → p + 2 ≤ length s → fieldAt s p ≡ L.Identifiers list → list ≤ length s
-unfolding fieldAt
-list-inside s p list h =
-    let P : Field → Type 0 = λ x. x ≡ L.Identifiers list → list ≤ length s in
-    cond-elim P (eqb (getD s p 0) 161) (λ _ e. let q : p + 2 ≡ list = cc in omega arith)
-    (λ _. cond-elim P (eqb (getD s p 0) 160) (λ _ e. absurd (never-list (textAt s (p + 2)) list e)) (λ _ e. absurd (let z : _≡_ {A = ℕ} 0 1 = cc in omega arith)))
-  where
-    never-list : (x : SpanAnswer) (list : ℕ) → titleField x ≡ L.Identifiers list → ⊥
-    never-list (S.Part t) list e = let z : _≡_ {A = ℕ} 0 1 = cc in omega arith
-    never-list (S.Refused r) list e = let z : _≡_ {A = ℕ} 0 1 = cc in omega arith
+  pub turn-here : (x : X) → f p ≡ x ∷ [] → k ≡ 0 → S .found x ≡ y
+  turn-here x e q = turn-found (S .found x) x (rw (e, q)) refl
 
--- an element that is found has two bytes at least
-from-room : (s : List ℕ) (p : ℕ) (x : ElementAnswer) (more : ℕ → List ℕ) (k q : ℕ) → read 16 F.Any s p ≡ x
-    → ((n j : ℕ) → placeFrom (more n) j ≡ P.Found q → q + 2 ≤ length s) → placeFrom (fromElement x (λ n. p ∷ more n)) k ≡ P.Found q → q + 2 ≤ length s
-from-room s p (End n) more zero q e h f = let w = ends-within 16 F.Any s p n e in let z : p ≡ q = cc in omega arith
-from-room s p (End n) more (suc k) q e h f = h n k f
-from-room s p (Refused r) more k q e h f = absurd (let z : _≡_ {A = ℕ} 0 1 = cc in omega arith)
+  pub turn-on : (x : X) → f p ≡ x ∷ [] → (k ≡ 0 → ⊥) → Rest S f s n (k - 1) y
+  turn-on x e q = let j : k ≡ suc (k - 1) = omega arith in turn-left (S .left (k - 1)) (k - 1) (rw e (ap (search S (x ∷ [])) (sym j))) refl
 
-pub place-room : (s : List ℕ) (turns p k q : ℕ) → placeFrom (elementsFrom turns s p) k ≡ P.Found q → q + 2 ≤ length s
-unfolding elementsFrom
-place-room s zero p k q e = absurd (let z : _≡_ {A = ℕ} 0 1 = cc in omega arith)
-place-room s (suc turns) p k q e =
-    cond-elim (λ (l : List ℕ). placeFrom l k ≡ P.Found q → q + 2 ≤ length s) (closes s p)
-    (λ _ f. absurd (let z : _≡_ {A = ℕ} 0 1 = cc in omega arith))
-    (λ _ f. from-room s p (read 16 F.Any s p) (elementsFrom turns s) k q refl (λ n j g. place-room s turns n j q g) f)
-    e
+-- a walk that counts the elements themselves
+pub each-held : (xs : List ℕ) → flatMap (λ p. p ∷ []) xs ≡ xs
+unfolding flatMap
+each-held [] = refl
+each-held (x ∷ xs) = ap (λ (l : List ℕ). x ∷ l) (each-held xs)

@@ -1,7 +1,7 @@
 -- The titles and the identifiers of a good record are those that it writes, none missed and none added. Assumes nothing.
 use mathlib.Core.Path.{_≡_, refl, sym, ap, _∙_}
 use mathlib.Core.List.{List, [], _∷_, _++_, append-nil, flatMap}
-use Prim.Native.Nat.{ℕ, zero, suc, _+_, _-_, _≤_, _<_}
+use Prim.Native.Nat.{ℕ, zero, suc, _+_, _≤_}
 use native.Mathlib.Omega.{arith}
 use borrow.Author.Tests.{eq-eqb, ne-eqb}
 use lib.ListN.{length, getD, take}
@@ -16,7 +16,6 @@ use Rattle.elements.specs.Statement.{Items}
 use Rattle.elements.specs.Statement as E
 use Rattle.elements.specs.DefLines.{ObjectIdElement, IdentifierElement, FieldElement, RisingFields, DefLineElement}
 use Rattle.elements.specs.DefLines as Z
-use Rattle.elements.proofs.Reading.{ends-within}
 use Rattle.elements.proofs.Began.{bytes-close, byte-not-close, read-byte}
 use Rattle.elements.proofs.Shape.{field-reads, identifier-reads, def-line-reads, any-reads}
 use Rattle.elements.proofs.Written.{text-written, integer-written}
@@ -27,34 +26,38 @@ use Rattle.deflines.specs.declared.Identifier.{Identifier}
 use Rattle.deflines.specs.declared.Identifier.the-variants as D
 use Rattle.deflines.specs.declared.IdentifierAnswer.the-variants as I
 use Rattle.deflines.specs.declared.Field.the-variants as L
-use Rattle.deflines.specs.Fields.{elementsFrom, fieldAt, titleField, fieldTitles, fieldIdentifiers, titlesIn, titlesOf, identifiersIn, identifiersOf, firstTitles}
-use Rattle.deflines.specs.Calls.{numbered, titleFrom, titleGiven, titleOf, giAnswer, numberAnswer, textAnswer, localAt, identifierAt, placeFrom, identifierGiven, identifierOf, firstGiven, firstOf}
-use Rattle.deflines.specs.Written.{fieldTitle, lineTitles, setTitles, titlesWritten, firstTitle, firstLine, firstWritten, objectWritten, identifierWritten, listIdentifiers, fieldIdentifier, lineIdentifiers, setIdentifiers, identifiersWritten}
-use Rattle.deflines.proofs.Walks.{from-close, from-passed}
+use Rattle.deflines.specs.Fields.{elementsLeft, fieldAt, titleField, fieldTitles, fieldIdentifiers}
+use Rattle.deflines.specs.Fields.{titlesIn, titlesOf, identifiersIn, identifiersOf, firstTitles}
+use Rattle.deflines.specs.Calls.{numbered, titleFrom, titleGiven, titleOf, placeFrom, identifierGiven, identifierOf, firstGiven, firstOf}
+use Rattle.deflines.specs.Calls.{giAnswer, numberAnswer, textAnswer, localAt, identifierAt}
+use Rattle.deflines.specs.Written.{fieldTitle, lineTitles, setTitles, titlesWritten, firstTitle, firstLine, firstWritten}
+use Rattle.deflines.specs.Written.{objectWritten, identifierWritten, listIdentifiers, fieldIdentifier, lineIdentifiers, setIdentifiers}
+use Rattle.deflines.specs.Written.{identifiersWritten}
+use Rattle.deflines.proofs.Walks.{next-closed, next-read, left-none, left-next}
 use Rattle.deflines.proofs.Calls.{title-passed, identifier-passed, first-passed}
 
--- ---- one element more
+-- ---- what is left of a list, by what a record writes
 
-module _ (s : List ℕ) (depth : ℕ) (form : Form) (turns p q : ℕ) (few : depth ≤ 16) (l : length s < turns + p) (e : read depth form s p ≡ End q) where
-  whole : read 16 F.Any s p ≡ End q
-  whole = any-reads s depth 16 form p q few e
+module _ (s : List ℕ) (depth : ℕ) (form : Form) (p q : ℕ) (few : depth ≤ 16) (e : read depth form s p ≡ End q) where
+  -- one element more
+  next : elementsLeft s p ≡ p ∷ elementsLeft s q
+  next =
+      let shut = byte-not-close s p (read-byte depth form s p q e) in
+      left-next s p q (sym (next-read s p shut refl (any-reads s depth 16 form p q few e)))
 
-  past : (p < q) × (q ≤ length s)
-  past = let w = ends-within depth form s p q e in (omega arith, w .1)
-
-  next : elementsFrom turns s p ≡ p ∷ elementsFrom (turns - 1) s q
-  next = let w = past in from-passed turns s p q (omega arith) (byte-not-close s p (read-byte depth form s p q e)) whole
-
-  left : length s < turns - 1 + q
-  left = let w = past in omega arith
-
-  flat : {X : Type 0} (f : ℕ → List X) → flatMap f (elementsFrom turns s p) ≡ f p ++ flatMap f (elementsFrom (turns - 1) s q)
+  flat : {X : Type 0} (f : ℕ → List X) → flatMap f (elementsLeft s p) ≡ f p ++ flatMap f (elementsLeft s q)
   unfolding flatMap
   flat f = rw next
 
-ended : {X : Type 0} (s : List ℕ) (turns p : ℕ) (f : ℕ → List X) → E.Close s p → flatMap f (elementsFrom turns s p) ≡ []
+  more : {X : Type 0} (f : ℕ → List X) {xs ys : List X} → f p ≡ xs → flatMap f (elementsLeft s q) ≡ ys → flatMap f (elementsLeft s p) ≡ xs ++ ys
+  more f a b = flat f ∙ rw (a, b)
+
+none : (s : List ℕ) (p : ℕ) → E.Close s p → elementsLeft s p ≡ []
+none s p c = left-none s p (sym (next-closed s p (bytes-close s p c)))
+
+ended : {X : Type 0} (s : List ℕ) (p : ℕ) (f : ℕ → List X) → E.Close s p → flatMap f (elementsLeft s p) ≡ []
 unfolding flatMap
-ended s turns p f c = rw (from-close turns s p (bytes-close s p c))
+ended s p f c = rw (none s p c)
 
 -- ---- fields by their tags
 
@@ -91,38 +94,33 @@ field-titles {s} {p} (Z.info c) = ap fieldTitles (other-field s p 165 (c .tagged
 
 -- ---- titles
 
-line-titles : {s : List ℕ} {low p n : ℕ} (turns : ℕ) → length s < turns + p → (x : RisingFields s low p n)
-    → flatMap (λ q. fieldTitles (fieldAt s q)) (elementsFrom turns s p) ≡ lineTitles x
-line-titles {s} {low} {p} turns l (Z.close c e) = ended s turns p (λ q. fieldTitles (fieldAt s q)) c
-line-titles {s} {low} {p} turns l (Z.field {q} tag h f rest) =
+line-titles : {s : List ℕ} {low p n : ℕ} (x : RisingFields s low p n) → flatMap (λ q. fieldTitles (fieldAt s q)) (elementsLeft s p) ≡ lineTitles x
+line-titles {s} {low} {p} (Z.close c e) = ended s p (λ q. fieldTitles (fieldAt s q)) c
+line-titles {s} {low} {p} (Z.field {q} tag h f rest) =
     let r = field-reads s .full p q (tag, f) in
-    flat s 14 F.Field turns p q (omega arith) l r (λ q. fieldTitles (fieldAt s q))
-    ∙ ap (λ (x : List Span). x ++ flatMap (λ q. fieldTitles (fieldAt s q)) (elementsFrom (turns - 1) s q)) (field-titles f)
-    ∙ ap (λ (x : List Span). fieldTitle f ++ x) (line-titles (turns - 1) (left s 14 F.Field turns p q (omega arith) l r) rest)
+    more s 14 F.Field p q (omega arith) r (λ q. fieldTitles (fieldAt s q)) (field-titles f) (line-titles rest)
 
-set-titles : {s : List ℕ} {p n : ℕ} (turns : ℕ) → length s < turns + p → (x : Items (DefLineElement s) s p n)
-    → flatMap (titlesIn s) (elementsFrom turns s p) ≡ setTitles x
+set-titles : {s : List ℕ} {p n : ℕ} (x : Items (DefLineElement s) s p n) → flatMap (titlesIn s) (elementsLeft s p) ≡ setTitles x
 unfolding titlesIn
-set-titles {s} {p} turns l (E.close c e) = ended s turns p (titlesIn s) c
-set-titles {s} {p} turns l (E.item {q} line rest) =
+set-titles {s} {p} (E.close c e) = ended s p (titlesIn s) c
+set-titles {s} {p} (E.item {q} line rest) =
     let r = def-line-reads s .full p q line in
-    flat s 15 F.DefLine turns p q (omega arith) l r (titlesIn s)
-    ∙ ap (λ (x : List Span). x ++ flatMap (titlesIn s) (elementsFrom (turns - 1) s q)) (line-titles (suc (length s)) (omega arith) (line .fields))
-    ∙ ap (λ (x : List Span). lineTitles (line .fields) ++ x) (set-titles (turns - 1) (left s 15 F.DefLine turns p q (omega arith) l r) rest)
+    more s 15 F.DefLine p q (omega arith) r (titlesIn s) (line-titles (line .fields)) (set-titles rest)
 
 -- the first def-line alone
 first-number : (ts : List Span) → firstGiven (titleFrom ts 0) ≡ firstTitle ts
 first-number [] = refl
 first-number (t ∷ ts) = refl
 
-set-first : {s : List ℕ} {p n : ℕ} (turns : ℕ) → length s < turns + p → (x : Items (DefLineElement s) s p n)
-    → firstGiven (titleFrom (flatMap (titlesIn s) (take 1 (elementsFrom turns s p))) 0) ≡ firstLine x
+set-first : {s : List ℕ} {p n : ℕ} (x : Items (DefLineElement s) s p n)
+    → firstGiven (titleFrom (flatMap (titlesIn s) (take 1 (elementsLeft s p))) 0) ≡ firstLine x
 unfolding titlesIn flatMap
-set-first {s} {p} turns l (E.close c e) = rw (from-close turns s p (bytes-close s p c))
-set-first {s} {p} turns l (E.item {q} line rest) =
+set-first {s} {p} (E.close c e) = rw (none s p c)
+set-first {s} {p} (E.item {q} line rest) =
     let r = def-line-reads s .full p q line in
-    rw (next s 15 F.DefLine turns p q (omega arith) l r, append-nil)
-    (ap (λ (ts : List Span). firstGiven (titleFrom ts 0)) (line-titles (suc (length s)) (omega arith) (line .fields)) ∙ first-number (lineTitles (line .fields)))
+    let ts = lineTitles (line .fields) in
+    rw (next s 15 F.DefLine p q (omega arith) r, append-nil)
+    (ap (λ (ts : List Span). firstGiven (titleFrom ts 0)) (line-titles (line .fields)) ∙ first-number ts)
 
 -- ---- identifiers
 
@@ -164,39 +162,36 @@ identifier-known {s} {p} (Z.other tag low high not c) =
     let m : getD s p 0 ≡ 160 → ⊥ = λ z. omega arith in
     rw (ne-eqb (getD s p 0) 171 n, ne-eqb (getD s p 0) 160 m) (ap (λ (x : ℕ). I.Found (D.Other x)) e)
 
-list-stand : {s : List ℕ} {p n : ℕ} (turns : ℕ) → length s < turns + p → (x : Items (IdentifierElement s) s p n) → Stand s (elementsFrom turns s p) (listIdentifiers x)
-list-stand {s} {p} turns l (E.close c e) = rw (from-close turns s p (bytes-close s p c)) tt
-list-stand {s} {p} turns l (E.item {q} i rest) =
-    let r = identifier-reads s .full p q i in
-    rw (next s 12 F.Identifier turns p q (omega arith) l r) (identifier-known i, list-stand (turns - 1) (left s 12 F.Identifier turns p q (omega arith) l r) rest)
+list-stand : {s : List ℕ} {p n : ℕ} (x : Items (IdentifierElement s) s p n) → Stand s (elementsLeft s p) (listIdentifiers x)
+list-stand {s} {p} (E.close c e) = rw (none s p c) tt
+list-stand {s} {p} (E.item {q} i rest) =
+    rw (next s 12 F.Identifier p q (omega arith) (identifier-reads s .full p q i)) (identifier-known i, list-stand rest)
 
 none-stand : (s : List ℕ) (ps : List ℕ) → ps ≡ [] → Stand s ps []
 none-stand s ps e = rw e tt
 
 field-stand : {s : List ℕ} {p q tag : ℕ} (f : FieldElement s p q tag) → Stand s (fieldIdentifiers s (fieldAt s p)) (fieldIdentifier f)
 field-stand {s} {p} (Z.title c) = none-stand s _ (ap (fieldIdentifiers s) (title-field s p _ (c .tagged .is) (ap titleField (text-written (c .one)))))
-field-stand {s} {p} (Z.seqid c) = rw (list-field s p (c .tagged .is)) (list-stand (suc (length s)) (omega arith) (c .one .items))
+field-stand {s} {p} (Z.seqid c) = rw (list-field s p (c .tagged .is)) (list-stand (c .one .items))
 field-stand {s} {p} (Z.taxid c) = none-stand s _ (ap (fieldIdentifiers s) (other-field s p 162 (c .tagged .is) (omega arith)))
 field-stand {s} {p} (Z.memberships c) = none-stand s _ (ap (fieldIdentifiers s) (other-field s p 163 (c .tagged .is) (omega arith)))
 field-stand {s} {p} (Z.links c) = none-stand s _ (ap (fieldIdentifiers s) (other-field s p 164 (c .tagged .is) (omega arith)))
 field-stand {s} {p} (Z.info c) = none-stand s _ (ap (fieldIdentifiers s) (other-field s p 165 (c .tagged .is) (omega arith)))
 
-line-stand : {s : List ℕ} {low p n : ℕ} (turns : ℕ) → length s < turns + p → (x : RisingFields s low p n)
-    → Stand s (flatMap (λ q. fieldIdentifiers s (fieldAt s q)) (elementsFrom turns s p)) (lineIdentifiers x)
-line-stand {s} {low} {p} turns l (Z.close c e) = none-stand s _ (ended s turns p (λ q. fieldIdentifiers s (fieldAt s q)) c)
-line-stand {s} {low} {p} turns l (Z.field {q} tag h f rest) =
-    let r = field-reads s .full p q (tag, f) in
-    rw (flat s 14 F.Field turns p q (omega arith) l r (λ q. fieldIdentifiers s (fieldAt s q)))
-    (stand-append s (fieldIdentifiers s (fieldAt s p)) (flatMap (λ q. fieldIdentifiers s (fieldAt s q)) (elementsFrom (turns - 1) s q)) (fieldIdentifier f) (lineIdentifiers rest) (field-stand f) (line-stand (turns - 1) (left s 14 F.Field turns p q (omega arith) l r) rest))
+line-stand : {s : List ℕ} {low p n : ℕ} (x : RisingFields s low p n)
+    → Stand s (flatMap (λ q. fieldIdentifiers s (fieldAt s q)) (elementsLeft s p)) (lineIdentifiers x)
+line-stand {s} {low} {p} (Z.close c e) = none-stand s _ (ended s p (λ q. fieldIdentifiers s (fieldAt s q)) c)
+line-stand {s} {low} {p} (Z.field {q} tag h f rest) =
+    rw (flat s 14 F.Field p q (omega arith) (field-reads s .full p q (tag, f)) (λ q. fieldIdentifiers s (fieldAt s q)))
+    (stand-append s (fieldIdentifiers s (fieldAt s p)) _ (fieldIdentifier f) (lineIdentifiers rest) (field-stand f) (line-stand rest))
 
-set-stand : {s : List ℕ} {p n : ℕ} (turns : ℕ) → length s < turns + p → (x : Items (DefLineElement s) s p n)
-    → Stand s (flatMap (identifiersIn s) (elementsFrom turns s p)) (setIdentifiers x)
+set-stand : {s : List ℕ} {p n : ℕ} (x : Items (DefLineElement s) s p n)
+    → Stand s (flatMap (identifiersIn s) (elementsLeft s p)) (setIdentifiers x)
 unfolding identifiersIn
-set-stand {s} {p} turns l (E.close c e) = none-stand s _ (ended s turns p (identifiersIn s) c)
-set-stand {s} {p} turns l (E.item {q} line rest) =
-    let r = def-line-reads s .full p q line in
-    rw (flat s 15 F.DefLine turns p q (omega arith) l r (identifiersIn s))
-    (stand-append s (identifiersIn s p) (flatMap (identifiersIn s) (elementsFrom (turns - 1) s q)) (lineIdentifiers (line .fields)) (setIdentifiers rest) (line-stand (suc (length s)) (omega arith) (line .fields)) (set-stand (turns - 1) (left s 15 F.DefLine turns p q (omega arith) l r) rest))
+set-stand {s} {p} (E.close c e) = none-stand s _ (ended s p (identifiersIn s) c)
+set-stand {s} {p} (E.item {q} line rest) =
+    rw (flat s 15 F.DefLine p q (omega arith) (def-line-reads s .full p q line) (identifiersIn s))
+    (stand-append s (identifiersIn s p) _ (lineIdentifiers (line .fields)) (setIdentifiers rest) (line-stand (line .fields)) (set-stand rest))
 
 -- ---- the calls
 
@@ -216,7 +211,7 @@ place-number s (p ∷ ps) (i ∷ is) (suc k) h = place-number s ps is k (h .1)
 module _ (header : List ℕ) (start end : ℕ) (good : GoodRecord header start end) where
   pub titles-are : titlesOf (take end header) start ≡ titlesWritten good
   unfolding titlesOf
-  titles-are = set-titles (suc (length (take end header))) (omega arith) (good .shape .items)
+  titles-are = set-titles (good .shape .items)
 
   -- the title call gives title k of those that a good record writes, or 10
   pub title-is : (k : ℕ) → titleOf header start end k ≡ numbered (titlesWritten good) k T.Title (λ _. T.Refused NoSuchSequence)
@@ -227,7 +222,7 @@ module _ (header : List ℕ) (start end : ℕ) (good : GoodRecord header start e
 
   identifiers-stand : Stand (take end header) (identifiersOf (take end header) start) (identifiersWritten good)
   unfolding identifiersOf
-  identifiers-stand = set-stand (suc (length (take end header))) (omega arith) (good .shape .items)
+  identifiers-stand = set-stand (good .shape .items)
 
   pub identifiers-count : length (identifiersOf (take end header) start) ≡ length (identifiersWritten good)
   identifiers-count = stand-count (take end header) (identifiersOf (take end header) start) (identifiersWritten good) identifiers-stand
@@ -243,4 +238,4 @@ module _ (header : List ℕ) (start end : ℕ) (good : GoodRecord header start e
   unfolding firstTitles
   first-is =
       sym (first-passed header start end _ (good-passes header start end good) refl)
-      ∙ set-first (suc (length (take end header))) (omega arith) (good .shape .items)
+      ∙ set-first (good .shape .items)

@@ -13,22 +13,37 @@ use Rattle.elements.specs.declared.ElementAnswer.the-variants.{End, Refused}
 use Rattle.elements.specs.declared.Form.the-variants.{Any}
 use Rattle.elements.specs.Parts.{textAt}
 use Rattle.elements.specs.Reading.{closes, read}
+use Rattle.deflines.specs.declared.Next.{Next}
+use Rattle.deflines.specs.declared.Next.the-variants as N
 use Rattle.deflines.specs.declared.Field.{Field}
 use Rattle.deflines.specs.declared.Field.the-variants as F
 
--- The places from an element on, where it is read.
-abbrev pub fromElement : ElementAnswer → (ℕ → List ℕ) → List ℕ
-fromElement (End n) rest = rest n
-fromElement (Refused r) rest = []
+-- What comes next in a list, by what is read there.
+abbrev pub nextRead : ElementAnswer → Next
+nextRead (End n) = N.Element n
+nextRead (Refused r) = N.NoMore
 
--- The places of the elements from p on, up to 00 00. Each takes a byte, so as many turns as there are bytes are enough.
+-- What comes next in a list, from a place on: no more at 00 00, or where no element is read.
+unfoldable pub nextAt : List ℕ → ℕ → Next
+nextAt s p = cond (closes s p) N.NoMore (nextRead (read 16 Any s p))
+
+-- The places from what comes next on.
+abbrev pub fromNext : Next → (ℕ → List ℕ) → List ℕ
+fromNext (N.Element n) more = more n
+fromNext N.NoMore more = []
+
+-- The places of the next elements, so many at most.
 unfoldable pub elementsFrom : ℕ → List ℕ → ℕ → List ℕ
 elementsFrom zero s p = []
-elementsFrom (suc turns) s p = cond (closes s p) [] (fromElement (read 16 Any s p) (λ n. p ∷ elementsFrom turns s n))
+elementsFrom (suc turns) s p = fromNext (nextAt s p) (λ n. p ∷ elementsFrom turns s n)
+
+-- The places of the elements from p on, what is left of a list. Each takes a byte, so as many turns as there are bytes are enough.
+abbrev pub elementsLeft : List ℕ → ℕ → List ℕ
+elementsLeft s p = elementsFrom (suc (length s)) s p
 
 -- The places of the elements inside the list at a place, whose first two bytes are 30 80.
 abbrev pub elementsIn : List ℕ → ℕ → List ℕ
-elementsIn s at = elementsFrom (suc (length s)) s (at + 2)
+elementsIn s at = elementsLeft s (at + 2)
 
 -- A title field holds a text.
 abbrev pub titleField : SpanAnswer → Field

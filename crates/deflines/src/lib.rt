@@ -9,7 +9,7 @@ use elements::SpanAnswer;
 ghost use mathlib.Core.Path.{_≡_};
 ghost use Prim.Native.Nat.{_+_, _≤_};
 ghost use lib.ListN.{length};
-ghost use Rattle.deflines.specs.Fields.{elementsIn, fieldAt, titlesIn, titlesOf, identifiersIn, identifiersOf, firstTitles};
+ghost use Rattle.deflines.specs.Fields.{nextAt, elementsIn, fieldAt, titlesIn, titlesOf, identifiersIn, identifiersOf, firstTitles};
 ghost use Rattle.deflines.specs.Calls.{titleFrom, titleGiven, titleOf, placeFrom, giAnswer, numberAnswer, textAnswer, localAt, identifierAt, placeSmall, identifierGiven, identifierOf, firstGiven, firstOf};
 
 // The titles given before a title, and the numbers of identifiers, count through all def-lines of a record.
@@ -65,6 +65,25 @@ pub enum PlaceSearch {
     Left(u64),
 }
 
+// What comes next in a list: an element, which ends at a place, or no more.
+pub enum Next {
+    Element(usize),
+    NoMore,
+}
+
+// What comes next in a list, from a place on.
+fn next_element(s: &[u8], p: usize) -> Next
+    ensures { λ r. ⌜ r ≡ nextAt (now (s .entry)) p ⌝ }
+{
+    if elements::closes_at(s, p) {
+        return Next::NoMore;
+    }
+    match elements::element(s, p, Form::Any) {
+        ElementAnswer::Refused(_) => Next::NoMore,
+        ElementAnswer::End(n) => Next::Element(n),
+    }
+}
+
 // The field of a def-line at a place.
 fn field_at(s: &[u8], p: usize) -> Field
     requires { ⌜ p + 2 ≤ length (now s) ⌝ }
@@ -90,13 +109,12 @@ fn title_in_line(s: &[u8], line: usize, k: u64) -> TitleSearch
 {
     let mut p = line + 2;
     let mut left = k;
-    while !elements::closes_at(s, p) {
-        let e = elements::element(s, p, Form::Any);
-        let ElementAnswer::End(n) = e else {
+    loop {
+        let Next::Element(end) = next_element(s, p) else {
             return TitleSearch::Left(left);
         };
         let field = field_at(s, p);
-        p = n;
+        p = end;
         let Field::Title(t) = field else {
             continue;
         };
@@ -105,7 +123,6 @@ fn title_in_line(s: &[u8], line: usize, k: u64) -> TitleSearch
         }
         left -= 1;
     }
-    TitleSearch::Left(left)
 }
 
 // The title after k others of the record at a place.
@@ -115,9 +132,8 @@ fn title_in_record(s: &[u8], start: usize, k: u64) -> TitleSearch
 {
     let mut p = start + 2;
     let mut left = k;
-    while !elements::closes_at(s, p) {
-        let e = elements::element(s, p, Form::Any);
-        let ElementAnswer::End(n) = e else {
+    loop {
+        let Next::Element(end) = next_element(s, p) else {
             return TitleSearch::Left(left);
         };
         let found = title_in_line(s, p, left);
@@ -125,9 +141,8 @@ fn title_in_record(s: &[u8], start: usize, k: u64) -> TitleSearch
             return found;
         };
         left = rest;
-        p = n;
+        p = end;
     }
-    TitleSearch::Left(left)
 }
 
 // The place of the element after k others of the list at a place.
@@ -135,23 +150,18 @@ fn element_in_list(s: &[u8], list: usize, k: u64) -> PlaceSearch
     requires { ⌜ list ≤ length (now s) ⌝ }
     ensures { λ r. ⌜ r ≡ placeFrom (elementsIn (now (s .entry)) list) k ⌝ }
 {
-    if s.len() - list < 2 {
-        return PlaceSearch::Left(k);
-    }
     let mut p = list + 2;
     let mut left = k;
-    while !elements::closes_at(s, p) {
-        let e = elements::element(s, p, Form::Any);
-        let ElementAnswer::End(n) = e else {
+    loop {
+        let Next::Element(end) = next_element(s, p) else {
             return PlaceSearch::Left(left);
         };
         if left == 0 {
             return PlaceSearch::Found(p);
         }
         left -= 1;
-        p = n;
+        p = end;
     }
-    PlaceSearch::Left(left)
 }
 
 // The place of the identifier after k others of the def-line at a place.
@@ -161,13 +171,12 @@ fn identifier_in_line(s: &[u8], line: usize, k: u64) -> PlaceSearch
 {
     let mut p = line + 2;
     let mut left = k;
-    while !elements::closes_at(s, p) {
-        let e = elements::element(s, p, Form::Any);
-        let ElementAnswer::End(n) = e else {
+    loop {
+        let Next::Element(end) = next_element(s, p) else {
             return PlaceSearch::Left(left);
         };
         let field = field_at(s, p);
-        p = n;
+        p = end;
         let Field::Identifiers(list) = field else {
             continue;
         };
@@ -177,7 +186,6 @@ fn identifier_in_line(s: &[u8], line: usize, k: u64) -> PlaceSearch
         };
         left = rest;
     }
-    PlaceSearch::Left(left)
 }
 
 // The place of the identifier after k others of the record at a place.
@@ -187,9 +195,8 @@ fn identifier_in_record(s: &[u8], start: usize, k: u64) -> PlaceSearch
 {
     let mut p = start + 2;
     let mut left = k;
-    while !elements::closes_at(s, p) {
-        let e = elements::element(s, p, Form::Any);
-        let ElementAnswer::End(n) = e else {
+    loop {
+        let Next::Element(end) = next_element(s, p) else {
             return PlaceSearch::Left(left);
         };
         let found = identifier_in_line(s, p, left);
@@ -197,9 +204,8 @@ fn identifier_in_record(s: &[u8], start: usize, k: u64) -> PlaceSearch
             return found;
         };
         left = rest;
-        p = n;
+        p = end;
     }
-    PlaceSearch::Left(left)
 }
 
 // The answer for a title that was looked for.

@@ -2,7 +2,7 @@
 use mathlib.Core.Path.{sym, _∙_}
 use mathlib.Core.Path.{ap}
 use Rattle.deflines.specs.Fields.{titleField}
-use Rattle.deflines.proofs.Walks.{field-identifiers, field-other, field-title}
+use Rattle.deflines.proofs.Fields.{field-identifiers, field-other, field-title}
 use borrow.Author.Needs.{needs}
 use Rattle.deflines.proofs.field_at.Statement.{statement}
 use Rattle.deflines.proofs.field_at.Tie as tie

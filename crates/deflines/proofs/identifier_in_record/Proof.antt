@@ -1,50 +1,44 @@
--- `deflines::identifier_in_record`: each turn looks through one def-line. The invariant says that what is left to look through is what is left of the def-lines. Assumes nothing.
-use Prim.Native.Nat.{ℕ, suc, _+_, _-_, _≤_, _<_}
-use native.Mathlib.Omega.{arith}
-use mathlib.Core.Path.{_≡_, refl, sym, _∙_}
-use mathlib.Core.List.{flatMap}
+-- `deflines::identifier_in_record`: each turn looks through one def-line. What is left of the def-lines gives the answer. Assumes nothing.
+use Prim.Native.Nat.{_-_}
+use mathlib.Core.Path.{refl, sym, _∙_}
 use lib.ListN.{length}
-use borrow.Author.Tests.{not-true, not-false}
-use Rattle.elements.specs.declared.Form.the-variants as F
-use Rattle.elements.proofs.Reading.{ends-within}
-use Rattle.deflines.specs.declared.PlaceSearch.the-variants as P
-use Rattle.deflines.specs.Fields.{elementsFrom, identifiersIn, identifiersOf}
+use Rattle.deflines.specs.Fields.{identifiersIn, identifiersOf}
 use Rattle.deflines.specs.Calls.{placeFrom}
-use Rattle.deflines.proofs.Walks.{place-same, place-other, walk-close, walk-refused, walk-inside, walk-beyond}
+use Rattle.deflines.proofs.Walks.{places, Rest, Turn, rest-none, turn-room, turn-less, turn-found, turn-left}
 use borrow.Author.Needs.{needs}
 use Rattle.deflines.proofs.identifier_in_record.Statement.{statement}
 use Rattle.deflines.proofs.identifier_in_record.Tie as tie
 
 abbrev Inv-loop : tie.InvT-loop
-Inv-loop s start k p₀ left₀ p left = (p ≤ length s) × ((turns : ℕ) × (length s < turns + p) × (placeFrom (flatMap (identifiersIn s) (elementsFrom turns s p)) left ≡ placeFrom (identifiersOf s start) k))
+Inv-loop s start k p₀ left₀ p left = Rest places (identifiersIn s) s p left (placeFrom (identifiersOf s start) k)
 
 abbrev μ-loop : tie.MeasureT-loop
 μ-loop s start k p₀ left₀ p left = length s - p
+
+turn : (c : tie.After-known-told Inv-loop μ-loop) → Turn (c .before .before .before .before .loop .inv) (c .before .end .given .0 .0)
+turn c = record { next = sym (c .before .before .before .next-element .ensures) ∙ c .before .end .given .1 }
 
 add-p : tie.Need-add-p Inv-loop μ-loop
 add-p c = search needs
 
 loop-holds : tie.Need-loop-holds Inv-loop μ-loop
 unfolding identifiersOf
-loop-holds c = ((c .before .pre), (suc (length ((c .before .args) .s .now)), omega arith, refl))
+loop-holds c = record { is = refl }
 
-closes-at-requires : tie.Need-closes-at-requires Inv-loop μ-loop
-closes-at-requires c κs = search needs
+next-element-requires : tie.Need-next-element-requires Inv-loop μ-loop
+next-element-requires c κs = search needs
 
-element-requires : tie.Need-element-requires Inv-loop μ-loop
-element-requires c κs = search needs
-
-enum-known-e : tie.Need-enum-known-e Inv-loop μ-loop
-enum-known-e c = search needs
+enum-known-end : tie.Need-enum-known-end Inv-loop μ-loop
+enum-known-end c = search needs
 
 enum-told : tie.Need-enum-told Inv-loop μ-loop
 enum-told c = search needs
 
 returns : tie.Need-returns Inv-loop μ-loop
-returns c = walk-refused P.Found P.Left place-same place-other (identifiersIn ((c .before .before .before .before .before .before .before .args) .s .now)) ((c .before .before .before .before .before .before .before .args) .s .now) ((c .before .before .before .before .before .loop) .inv .1 .0) ((c .before .before .before .before .before .loop) .p) ((c .before .before .before .before .before .loop) .left) _ (sym ((c .before .before .element) .ensures) ∙ (c .enum-told) .given .1) ∙ (c .before .before .before .before .before .loop) .inv .1 .2
+returns c = rest-none (c .before .before .before .loop .inv) (sym (c .before .before .next-element .ensures) ∙ c .enum-told .given .1)
 
 identifier-in-line-requires : tie.Need-identifier-in-line-requires Inv-loop μ-loop
-identifier-in-line-requires c κs = omega (arith, ends-within 16 F.Any ((c .before .before .before .before .before .before .before .before .args) .s .now) ((c .before .before .before .before .before .before .loop) .p) _ (sym ((c .before .before .before .element) .ensures) ∙ (c .before .e) .given .1))
+identifier-in-line-requires c κs = turn-room (turn c)
 
 enum-known-found : tie.Need-enum-known-found Inv-loop μ-loop
 enum-known-found c = search needs
@@ -53,16 +47,13 @@ enum-told-2 : tie.Need-enum-told-2 Inv-loop μ-loop
 enum-told-2 c = search needs
 
 returns-2 : tie.Need-returns-2 Inv-loop μ-loop
-returns-2 c = (c .enum-told2) .given .1 ∙ sym (walk-inside P.Found P.Left place-same place-other (identifiersIn ((c .before .before .before .before .before .before .before .before .before .before .before .args) .s .now)) ((c .before .before .before .before .before .before .before .before .before .before .before .args) .s .now) ((c .before .before .before .before .before .before .before .before .before .loop) .inv .1 .0) ((c .before .before .before .before .before .before .before .before .before .loop) .p) ((c .before .before .before .before .before .before .before .before .before .loop) .left) _ (omega (arith, (c .before .before .before .before .before .before .before .before .before .loop) .inv)) (sym ((c .before .before .before .before .before .before .before .before .closes-at) .ensures) ∙ not-true _ ((c .before .before .before .before .before .before .before .if1) .taken)) (sym ((c .before .before .before .before .before .before .element) .ensures) ∙ (c .before .before .before .before .e) .given .1) _ (sym ((c .before .before .identifier-in-line) .ensures) ∙ (c .enum-told2) .given .1)) ∙ (c .before .before .before .before .before .before .before .before .before .loop) .inv .1 .2
+returns-2 c = turn-found (turn (c .before .before .before)) _ _ (c .before .before .identifier-in-line .ensures) (c .enum-told2 .given .1)
 
 loop-less : tie.Need-loop-less Inv-loop μ-loop
-loop-less c = omega (arith, ends-within 16 F.Any ((c .before .before .before .before .before .before .before .before .before .before .before .before .args) .s .now) ((c .before .before .before .before .before .before .before .before .before .before .loop) .p) _ (sym ((c .before .before .before .before .before .before .before .element) .ensures) ∙ (c .before .before .before .before .before .e) .given .1))
+loop-less c = turn-less (turn (c .before .before .before .before))
 
 loop-again : tie.Need-loop-again Inv-loop μ-loop
-loop-again c = let w = ends-within 16 F.Any ((c .before .before .before .before .before .before .before .before .before .before .before .before .args) .s .now) ((c .before .before .before .before .before .before .before .before .before .before .loop) .p) _ (sym ((c .before .before .before .before .before .before .before .element) .ensures) ∙ (c .before .before .before .before .before .e) .given .1) in (w .1, (((c .before .before .before .before .before .before .before .before .before .before .loop) .inv .1 .0) - 1, omega (arith, (c .before .before .before .before .before .before .before .before .before .before .loop) .inv, w), sym (walk-beyond P.Found P.Left place-same place-other (identifiersIn ((c .before .before .before .before .before .before .before .before .before .before .before .before .args) .s .now)) ((c .before .before .before .before .before .before .before .before .before .before .before .before .args) .s .now) ((c .before .before .before .before .before .before .before .before .before .before .loop) .inv .1 .0) ((c .before .before .before .before .before .before .before .before .before .before .loop) .p) ((c .before .before .before .before .before .before .before .before .before .before .loop) .left) _ (omega (arith, (c .before .before .before .before .before .before .before .before .before .before .loop) .inv)) (sym ((c .before .before .before .before .before .before .before .before .before .closes-at) .ensures) ∙ not-true _ ((c .before .before .before .before .before .before .before .before .if1) .taken)) (sym ((c .before .before .before .before .before .before .before .element) .ensures) ∙ (c .before .before .before .before .before .e) .given .1) _ (sym ((c .before .before .before .identifier-in-line) .ensures) ∙ (c .before .found) .given .1)) ∙ (c .before .before .before .before .before .before .before .before .before .before .loop) .inv .1 .2))
-
-returns-3 : tie.Need-returns-3 Inv-loop μ-loop
-returns-3 c = walk-close P.Found P.Left place-same place-other (identifiersIn ((c .before .before .before .before .args) .s .now)) ((c .before .before .before .before .args) .s .now) ((c .before .before .loop) .inv .1 .0) ((c .before .before .loop) .p) ((c .before .before .loop) .left) (sym ((c .before .closes-at) .ensures) ∙ not-false _ ((c .if1) .left)) ∙ (c .before .before .loop) .inv .1 .2
+loop-again c = turn-left (turn (c .before .before .before .before)) _ _ (c .before .before .before .identifier-in-line .ensures) (c .before .found .given .1)
 
 pub identifier-in-record-spec : {M : Type 1} → statement M
 identifier-in-record-spec =
@@ -72,9 +63,8 @@ identifier-in-record-spec =
     μ-loop
     add-p
     loop-holds
-    closes-at-requires
-    element-requires
-    enum-known-e
+    next-element-requires
+    enum-known-end
     enum-told
     returns
     identifier-in-line-requires
@@ -82,5 +72,4 @@ identifier-in-record-spec =
     enum-told-2
     returns-2
     loop-less
-    loop-again
-    returns-3)
+    loop-again)
