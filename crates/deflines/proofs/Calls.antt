@@ -1,7 +1,7 @@
 -- The calls over one record: the check decides first. Assumes nothing.
-use mathlib.Core.Path.{_≡_, refl}
+use mathlib.Core.Path.{_≡_, refl, sym}
 use mathlib.Core.List.{List, [], _∷_, append-nil, flatMap}
-use Prim.Native.Nat.{ℕ, _+_, _-_, _≤_}
+use Prim.Native.Nat.{ℕ, _+_, _≤_}
 use native.Mathlib.Omega.{arith}
 use lib.ListN.{length, take}
 use Rattle.answers.specs.declared.Refusal.{Refusal}
@@ -19,7 +19,7 @@ use Rattle.deflines.specs.declared.TitleSearch.the-variants as A
 use Rattle.deflines.specs.declared.PlaceSearch.the-variants as P
 use Rattle.deflines.specs.Fields.{elementsIn, titlesIn, firstTitles}
 use Rattle.deflines.specs.Calls.{titleFrom, placeFrom, titleIn, titleOf, identifierIn, identifierOf, firstIn, firstOf}
-use Rattle.deflines.proofs.Walks.{elements-below, place-below}
+use Rattle.deflines.proofs.Walks.{elements-each, place-room}
 
 -- ---- the first def-line
 
@@ -45,7 +45,7 @@ module _ (s : List ℕ) (start : ℕ) where
 
   -- an element inside has two bytes
   pub line-room : (k line : ℕ) → placeFrom (elementsIn s start) k ≡ P.Found line → line + 2 ≤ length s
-  line-room k line e = let h = place-below (length s - 1) (elementsIn s start) k line (elements-below s (start + 2)) e in omega arith
+  line-room k line e = place-room s (elementsIn s start) k line _ (elements-each s (start + 2)) refl e
 
 -- ---- after the check
 
@@ -53,8 +53,8 @@ module _ (header : List ℕ) (start end : ℕ) where
   pub passed-room : checkRecord header start end ≡ C.Passed → start + 2 ≤ length (take end header)
   passed-room p = let r = passed-record header start end p in let a = r .sized in let b = r .long in omega arith
 
-  pub passed-fits : checkRecord header start end ≡ C.Passed → end ≤ length header
-  passed-fits p = passed-record header start end p .fits
+  pub passed-sized : checkRecord header start end ≡ C.Passed → end ≡ length (take end header)
+  passed-sized p = sym (passed-record header start end p .sized)
 
   pub passed-small : checkRecord header start end ≡ C.Passed → length (take end header) ≤ 2147483647
   passed-small p = let r = passed-record header start end p in let a = r .sized in let b = r .fits in let c = r .small in omega arith

@@ -1,12 +1,10 @@
 -- The walks over def-lines, fields and identifiers: one turn passes one element of a list. Assumes nothing.
-use mathlib.Core.Path.{_≡_, refl, sym, ap, _∙_}
+use mathlib.Core.Path.{_≡_, refl, sym, ap, subst, _∙_}
 use mathlib.Core.List.{List, [], _∷_, _++_, flatMap}
 use mathlib.Core.Bool.{Bool, true, false}
 use Prim.Native.Nat.{ℕ, zero, suc, _+_, _-_, _≤_, _<_}
 use native.Mathlib.Omega.{arith}
 use lib.ListN.{length}
-use Rattle.laws.specs.Digits.{allBelow}
-use Rattle.laws.proofs.Digits.{below-parts, below-cons, below-none}
 use Rattle.laws.proofs.Choices.{cond-elim}
 use Rattle.elements.specs.declared.Span.{Span}
 use Rattle.elements.specs.declared.ElementAnswer.{ElementAnswer}
@@ -22,6 +20,7 @@ use Rattle.deflines.specs.declared.PlaceSearch.{PlaceSearch}
 use Rattle.deflines.specs.declared.PlaceSearch.the-variants as P
 use Rattle.deflines.specs.Fields.{nextRead, nextAt, fromNext, elementsFrom, elementsLeft}
 use Rattle.deflines.specs.Calls.{numbered, placeFrom}
+use Rattle.deflines.proofs.Lists.{Each, each-number}
 
 -- ---- what comes next in a list
 
@@ -72,21 +71,26 @@ left-next s p n e =
     rw (e, f)
 
 -- each element has two bytes
-from-below : (turns : ℕ) (s : List ℕ) (p : ℕ) → allBelow (length s - 1) (elementsFrom turns s p) ≡ true
+abbrev pub InPlace : List ℕ → ℕ → Type 0
+InPlace s p = p + 2 ≤ length s
+
+from-each : (turns : ℕ) (s : List ℕ) (p : ℕ) → Each (InPlace s) (elementsFrom turns s p)
 unfolding elementsFrom
-from-below zero s p = below-none (length s - 1)
-from-below (suc turns) s p =
-    let m = length s - 1 in
-    next-cases s p (λ (x : Next). allBelow m (fromNext x (λ n. p ∷ elementsFrom turns s n)) ≡ true) (below-none m)
-    (λ n a b. below-cons m p (elementsFrom turns s n) (omega arith) (from-below turns s n))
+from-each zero s p = tt
+from-each (suc turns) s p =
+    next-cases s p (λ (x : Next). Each (InPlace s) (fromNext x (λ n. p ∷ elementsFrom turns s n))) tt (λ n a b. (omega arith, from-each turns s n))
 
-pub elements-below : (s : List ℕ) (p : ℕ) → allBelow (length s - 1) (elementsLeft s p) ≡ true
-elements-below s p = from-below (suc (length s)) s p
+pub elements-each : (s : List ℕ) (p : ℕ) → Each (InPlace s) (elementsLeft s p)
+elements-each s p = from-each (suc (length s)) s p
 
-pub place-below : (m : ℕ) (xs : List ℕ) (k q : ℕ) → allBelow m xs ≡ true → placeFrom xs k ≡ P.Found q → q < m
-place-below m [] k q h e = absurd (let z : _≡_ {A = ℕ} 0 1 = cc in omega arith)
-place-below m (x ∷ xs) zero q h e = let z : x ≡ q = cc in let p = below-parts m x xs h .0 in omega arith
-place-below m (x ∷ xs) (suc k) q h e = place-below m xs k q (below-parts m x xs h .1) e
+abbrev PlaceWithin : List ℕ → PlaceSearch → Type 0
+PlaceWithin s (P.Found p) = InPlace s p
+PlaceWithin s (P.Left k) = Unit {0}
+
+-- and so has one that is found
+pub place-room : (s xs : List ℕ) (k p : ℕ) (x : PlaceSearch) → Each (InPlace s) xs → x ≡ placeFrom xs k → x ≡ P.Found p → p + 2 ≤ length s
+place-room s xs k p x h e q =
+    subst (PlaceWithin s) (sym e ∙ q) (each-number (InPlace s) (PlaceWithin s) P.Found P.Left (λ p w. w) (λ j. tt) xs k h)
 
 -- ---- searches for number k of a list
 

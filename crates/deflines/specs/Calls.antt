@@ -1,6 +1,6 @@
 -- What the calls over one record answer: a title after so many, an identifier by its number, the first def-line's title.
 -- Assumes nothing.
-use Prim.Native.Nat.{ℕ, zero, suc, _+_, _≤_}
+use Prim.Native.Nat.{ℕ, zero, suc, _+_}
 use mathlib.Core.Bool.{cond}
 use mathlib.Core.List.{List, [], _∷_}
 use lib.ListN.{getD, take}
@@ -94,11 +94,6 @@ identifierIn s start number (C.Refused r) = I.Refused r
 -- The identifier of a number, from 0 over all def-lines of the record from start up to end: the record's check (22, 1, 20, 21), then 10.
 unfoldable pub identifierOf : List ℕ → ℕ → ℕ → ℕ → IdentifierAnswer
 identifierOf header start end number = identifierIn (take end header) start number (checkRecord header start end)
-
--- A place that was found is that of an input byte range.
-abbrev pub placeSmall : PlaceSearch → Type 0
-placeSmall (P.Found p) = p ≤ 2147483648
-placeSmall (P.Left k) = Unit
 
 -- ---- the first def-line's title
 

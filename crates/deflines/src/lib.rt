@@ -10,7 +10,7 @@ ghost use mathlib.Core.Path.{_≡_};
 ghost use Prim.Native.Nat.{_+_, _≤_};
 ghost use lib.ListN.{length};
 ghost use Rattle.deflines.specs.Fields.{nextAt, elementsIn, fieldAt, titlesIn, titlesOf, identifiersIn, identifiersOf, firstTitles};
-ghost use Rattle.deflines.specs.Calls.{titleFrom, titleGiven, titleOf, placeFrom, giAnswer, numberAnswer, textAnswer, localAt, identifierAt, placeSmall, identifierGiven, identifierOf, firstGiven, firstOf};
+ghost use Rattle.deflines.specs.Calls.{titleFrom, titleOf, placeFrom, giAnswer, numberAnswer, textAnswer, localAt, identifierAt, identifierOf, firstOf};
 
 // The titles given before a title, and the numbers of identifiers, count through all def-lines of a record.
 
@@ -208,16 +208,6 @@ fn identifier_in_record(s: &[u8], start: usize, k: u64) -> PlaceSearch
     }
 }
 
-// The answer for a title that was looked for.
-fn given_title(found: TitleSearch) -> TitleAnswer
-    ensures { λ r. ⌜ r ≡ titleGiven found ⌝ }
-{
-    match found {
-        TitleSearch::Found(t) => TitleAnswer::Title(t),
-        TitleSearch::Left(_) => TitleAnswer::Refused(Refusal::NoSuchSequence),
-    }
-}
-
 // The title after so many others of the record from start up to end of a header file.
 pub fn title(header: &[u8], start: u64, end: u64, given: u64) -> TitleAnswer
     ensures { λ r. ⌜ r ≡ titleOf (now (header .entry)) start end given ⌝ }
@@ -226,7 +216,10 @@ pub fn title(header: &[u8], start: u64, end: u64, given: u64) -> TitleAnswer
         Checked::Refused(r) => TitleAnswer::Refused(r),
         Checked::Passed => {
             let stop = end as usize;
-            given_title(title_in_record(&header[..stop], start as usize, given))
+            match title_in_record(&header[..stop], start as usize, given) {
+                TitleSearch::Found(t) => TitleAnswer::Title(t),
+                TitleSearch::Left(_) => TitleAnswer::Refused(Refusal::NoSuchSequence),
+            }
         }
     }
 }
@@ -265,7 +258,7 @@ fn text_answer(text: SpanAnswer) -> IdentifierAnswer
 
 // The local name at a place.
 fn local_at(s: &[u8], p: usize) -> IdentifierAnswer
-    requires { ⌜ p ≤ 4294967296 ⌝ }
+    requires { ⌜ p ≤ length (now s) ⌝ }
     ensures { λ r. ⌜ r ≡ localAt (now (s .entry)) p ⌝ }
 {
     if fields::byte(s, p) == 160 {
@@ -276,7 +269,7 @@ fn local_at(s: &[u8], p: usize) -> IdentifierAnswer
 
 // The identifier at a place.
 fn identifier_at(s: &[u8], p: usize) -> IdentifierAnswer
-    requires { ⌜ p ≤ 4294967294 ⌝ }
+    requires { ⌜ p + 2 ≤ length (now s) ⌝ }
     ensures { λ r. ⌜ r ≡ identifierAt (now (s .entry)) p ⌝ }
 {
     let b = fields::byte(s, p);
@@ -289,17 +282,6 @@ fn identifier_at(s: &[u8], p: usize) -> IdentifierAnswer
     IdentifierAnswer::Found(Identifier::Other(b))
 }
 
-// The answer for an identifier that was looked for.
-fn given_identifier(s: &[u8], found: PlaceSearch) -> IdentifierAnswer
-    requires { ⌜ placeSmall found ⌝ }
-    ensures { λ r. ⌜ r ≡ identifierGiven (now (s .entry)) found ⌝ }
-{
-    match found {
-        PlaceSearch::Found(p) => identifier_at(s, p),
-        PlaceSearch::Left(_) => IdentifierAnswer::Refused(Refusal::NoSuchSequence),
-    }
-}
-
 // The identifier of a number, from 0 over all def-lines, of the record from start up to end of a header file.
 pub fn find_identifier(header: &[u8], start: u64, end: u64, number: u64) -> IdentifierAnswer
     ensures { λ r. ⌜ r ≡ identifierOf (now (header .entry)) start end number ⌝ }
@@ -309,7 +291,10 @@ pub fn find_identifier(header: &[u8], start: u64, end: u64, number: u64) -> Iden
         Checked::Passed => {
             let stop = end as usize;
             let s = &header[..stop];
-            given_identifier(s, identifier_in_record(s, start as usize, number))
+            match identifier_in_record(s, start as usize, number) {
+                PlaceSearch::Found(p) => identifier_at(s, p),
+                PlaceSearch::Left(_) => IdentifierAnswer::Refused(Refusal::NoSuchSequence),
+            }
         }
     }
 }
@@ -326,16 +311,6 @@ fn title_in_first(s: &[u8], start: usize) -> TitleSearch
     title_in_line(s, line, 0)
 }
 
-// The answer for a first title that was looked for.
-fn given_first(found: TitleSearch) -> FirstAnswer
-    ensures { λ r. ⌜ r ≡ firstGiven found ⌝ }
-{
-    match found {
-        TitleSearch::Found(t) => FirstAnswer::Title(t),
-        TitleSearch::Left(_) => FirstAnswer::Untitled,
-    }
-}
-
 // The first def-line's title, where it has one, of the record from start up to end of a header file.
 pub fn first_title(header: &[u8], start: u64, end: u64) -> FirstAnswer
     ensures { λ r. ⌜ r ≡ firstOf (now (header .entry)) start end ⌝ }
@@ -344,7 +319,10 @@ pub fn first_title(header: &[u8], start: u64, end: u64) -> FirstAnswer
         Checked::Refused(r) => FirstAnswer::Refused(r),
         Checked::Passed => {
             let stop = end as usize;
-            given_first(title_in_first(&header[..stop], start as usize))
+            match title_in_first(&header[..stop], start as usize) {
+                TitleSearch::Found(t) => FirstAnswer::Title(t),
+                TitleSearch::Left(_) => FirstAnswer::Untitled,
+            }
         }
     }
 }

@@ -1,11 +1,15 @@
 -- `deflines::first_title`: a record that passed has room for its first two bytes, and its first def-line is looked through. Assumes nothing.
-use mathlib.Core.Path.{sym, ap, _∙_}
-use lib.Seq.{length-take-le}
+use mathlib.Core.Path.{_≡_, sym, ap, _∙_}
+use Rattle.answers.specs.declared.Checked.the-variants as C
+use Rattle.headers.specs.Record.{checkRecord}
 use Rattle.deflines.specs.Calls.{firstGiven}
-use Rattle.deflines.proofs.Calls.{passed-room, passed-fits, first-denied, first-passed}
+use Rattle.deflines.proofs.Calls.{passed-room, passed-sized, first-denied, first-passed}
 use borrow.Author.Needs.{needs}
 use Rattle.deflines.proofs.first_title.Statement.{statement}
 use Rattle.deflines.proofs.first_title.Tie as tie
+
+passed : (c : tie.After-enum-told) → let a = c .before .before .before .before .args in checkRecord (a .header .now) (a .start) (a .end) ≡ C.Passed
+passed c = sym (c .before .before .check-record .ensures) ∙ c .enum-told .given .1
 
 check-record-requires : tie.Need-check-record-requires
 check-record-requires c κs = search needs
@@ -17,19 +21,25 @@ enum-told : tie.Need-enum-told
 enum-told c = search needs
 
 slice-aggregate-title-in-first : tie.Need-slice-aggregate-title-in-first
-slice-aggregate-title-in-first c = sym (length-take-le ((c .before .before .before .before .before .args) .end) ((c .before .before .before .before .before .args) .header .now) (passed-fits ((c .before .before .before .before .before .args) .header .now) ((c .before .before .before .before .before .args) .start) ((c .before .before .before .before .before .args) .end) (sym ((c .before .before .before .check-record) .ensures) ∙ (c .before .enum-told) .given .1)))
+slice-aggregate-title-in-first c = passed-sized _ _ _ (passed (c .before))
 
 title-in-first-requires : tie.Need-title-in-first-requires
-title-in-first-requires c κs = passed-room ((c .before .before .before .before .before .args) .header .now) ((c .before .before .before .before .before .args) .start) ((c .before .before .before .before .before .args) .end) (sym ((c .before .before .before .check-record) .ensures) ∙ (c .before .enum-told) .given .1)
+title-in-first-requires c κs = passed-room _ _ _ (passed (c .before))
 
-given-first-requires : tie.Need-given-first-requires
-given-first-requires c κs = search needs
+enum-known-t : tie.Need-enum-known-t
+enum-known-t c = search needs
+
+enum-told-2 : tie.Need-enum-told-2
+enum-told-2 c = search needs
 
 returns : tie.Need-returns
-returns c = first-denied _ _ _ _ (sym ((c .before .before .before .check-record) .ensures) ∙ (c .before .r) .given .1)
+returns c = first-denied _ _ _ _ (sym (c .before .before .before .check-record .ensures) ∙ c .before .r .given .1)
 
 returns-2 : tie.Need-returns-2
-returns-2 c = first-passed _ _ _ _ (sym ((c .before .before .before .before .before .check-record) .ensures) ∙ (c .before .before .before .enum-told) .given .1) ((c .given-first) .ensures ∙ ap firstGiven ((c .before .title-in-first) .ensures))
+returns-2 c = first-passed _ _ _ _ (passed (c .before .before .before .before .before)) (ap firstGiven (sym (c .before .t .given .1) ∙ c .before .before .before .title-in-first .ensures))
+
+returns-3 : tie.Need-returns-3
+returns-3 c = first-passed _ _ _ _ (passed (c .before .before .before .before)) (ap firstGiven (sym (c .enum-told2 .given .1) ∙ c .before .before .title-in-first .ensures))
 
 pub first-title-spec : {M : Type 1} → statement M
 first-title-spec =
@@ -40,6 +50,8 @@ first-title-spec =
     enum-told
     slice-aggregate-title-in-first
     title-in-first-requires
-    given-first-requires
+    enum-known-t
+    enum-told-2
     returns
-    returns-2)
+    returns-2
+    returns-3)
