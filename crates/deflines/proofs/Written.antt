@@ -1,10 +1,10 @@
 -- The titles and the identifiers of a good record are those that it writes, none missed and none added. Assumes nothing.
 use mathlib.Core.Path.{_≡_, refl, sym, ap, _∙_}
-use mathlib.Core.List.{List, [], _∷_, _++_, append-nil, flatMap}
-use Prim.Native.Nat.{ℕ, zero, suc, _+_, _≤_}
+use mathlib.Core.List.{List, [], _∷_, _++_, append-nil, map, map-append, flatMap}
+use Prim.Native.Nat.{ℕ, _+_, _≤_}
 use native.Mathlib.Omega.{arith}
 use borrow.Author.Tests.{eq-eqb, ne-eqb}
-use lib.ListN.{length, getD, take}
+use lib.ListN.{length, length-map, getD, take}
 use Rattle.answers.specs.declared.Refusal.the-variants.{NoSuchSequence}
 use Rattle.elements.specs.declared.Span.{Span}
 use Rattle.elements.specs.declared.ElementAnswer.the-variants.{End, Refused}
@@ -22,17 +22,20 @@ use Rattle.elements.proofs.Written.{text-written, integer-written}
 use Rattle.headers.specs.Statement.{GoodRecord}
 use Rattle.headers.proofs.Record.{good-passes}
 use Rattle.deflines.specs.declared.TitleAnswer.the-variants as T
-use Rattle.deflines.specs.declared.Identifier.{Identifier}
 use Rattle.deflines.specs.declared.Identifier.the-variants as D
+use Rattle.deflines.specs.declared.IdentifierAnswer.{IdentifierAnswer}
 use Rattle.deflines.specs.declared.IdentifierAnswer.the-variants as I
+use Rattle.deflines.specs.declared.TitleSearch.the-variants as A
+use Rattle.deflines.specs.declared.PlaceSearch.the-variants as P
 use Rattle.deflines.specs.declared.Field.the-variants as L
 use Rattle.deflines.specs.Fields.{elementsLeft, fieldAt, titleField, fieldTitles, fieldIdentifiers}
 use Rattle.deflines.specs.Fields.{titlesIn, titlesOf, identifiersIn, identifiersOf, firstTitles}
-use Rattle.deflines.specs.Calls.{numbered, titleFrom, titleGiven, titleOf, placeFrom, identifierGiven, identifierOf, firstGiven, firstOf}
+use Rattle.deflines.specs.Calls.{numbered, titleFrom, titleGiven, titleOf, identifierGiven, identifierOf, firstGiven, firstOf}
 use Rattle.deflines.specs.Calls.{giAnswer, numberAnswer, textAnswer, localAt, identifierAt}
 use Rattle.deflines.specs.Written.{fieldTitle, lineTitles, setTitles, titlesWritten, firstTitle, firstLine, firstWritten}
 use Rattle.deflines.specs.Written.{objectWritten, identifierWritten, listIdentifiers, fieldIdentifier, lineIdentifiers, setIdentifiers}
 use Rattle.deflines.specs.Written.{identifiersWritten}
+use Rattle.deflines.proofs.Lists.{numbered-then, numbered-map}
 use Rattle.deflines.proofs.Walks.{next-closed, next-read, left-none, left-next}
 use Rattle.deflines.proofs.Calls.{title-passed, identifier-passed, first-passed}
 
@@ -51,6 +54,9 @@ module _ (s : List ℕ) (depth : ℕ) (form : Form) (p q : ℕ) (few : depth ≤
 
   more : {X : Type 0} (f : ℕ → List X) {xs ys : List X} → f p ≡ xs → flatMap f (elementsLeft s q) ≡ ys → flatMap f (elementsLeft s p) ≡ xs ++ ys
   more f a b = flat f ∙ rw (a, b)
+
+  known : {X Z : Type 0} (f : ℕ → List X) (g : X → Z) → map g (flatMap f (elementsLeft s p)) ≡ map g (f p) ++ map g (flatMap f (elementsLeft s q))
+  known f g = rw (flat f, map-append)
 
 none : (s : List ℕ) (p : ℕ) → E.Close s p → elementsLeft s p ≡ []
 none s p c = left-none s p (sym (next-closed s p (bytes-close s p c)))
@@ -124,25 +130,6 @@ set-first {s} {p} (E.item {q} line rest) =
 
 -- ---- identifiers
 
--- places at which the identifiers of a list stand
-abbrev Stand : List ℕ → List ℕ → List Identifier → Type 0
-Stand s [] [] = Unit {0}
-Stand s [] (i ∷ is) = ⊥
-Stand s (p ∷ ps) [] = ⊥
-Stand s (p ∷ ps) (i ∷ is) = (identifierAt s p ≡ I.Found i) × Stand s ps is
-
-stand-append : (s : List ℕ) (ps qs : List ℕ) (is js : List Identifier) → Stand s ps is → Stand s qs js → Stand s (ps ++ qs) (is ++ js)
-stand-append s [] qs [] js a b = b
-stand-append s [] qs (i ∷ is) js a b = absurd a
-stand-append s (p ∷ ps) qs [] js a b = absurd a
-stand-append s (p ∷ ps) qs (i ∷ is) js a b = (a .0, stand-append s ps qs is js (a .1) b)
-
-stand-count : (s : List ℕ) (ps : List ℕ) (is : List Identifier) → Stand s ps is → length ps ≡ length is
-stand-count s [] [] h = refl
-stand-count s [] (i ∷ is) h = absurd h
-stand-count s (p ∷ ps) [] h = absurd h
-stand-count s (p ∷ ps) (i ∷ is) h = ap suc (stand-count s ps is (h .1))
-
 object-known : {s : List ℕ} {p q : ℕ} (o : ObjectIdElement s p q) → localAt s p ≡ I.Found (D.Local (objectWritten o))
 unfolding localAt
 object-known {s} {p} (Z.number c) = rw (eq-eqb (getD s p 0) 160 (c .tagged .is)) (ap numberAnswer (integer-written (c .one)))
@@ -162,51 +149,37 @@ identifier-known {s} {p} (Z.other tag low high not c) =
     let m : getD s p 0 ≡ 160 → ⊥ = λ z. omega arith in
     rw (ne-eqb (getD s p 0) 171 n, ne-eqb (getD s p 0) 160 m) (ap (λ (x : ℕ). I.Found (D.Other x)) e)
 
-list-stand : {s : List ℕ} {p n : ℕ} (x : Items (IdentifierElement s) s p n) → Stand s (elementsLeft s p) (listIdentifiers x)
-list-stand {s} {p} (E.close c e) = rw (none s p c) tt
-list-stand {s} {p} (E.item {q} i rest) =
-    rw (next s 12 F.Identifier p q (omega arith) (identifier-reads s .full p q i)) (identifier-known i, list-stand rest)
+-- the identifiers at the places of a list
+list-known : {s : List ℕ} {p n : ℕ} (x : Items (IdentifierElement s) s p n) → map (identifierAt s) (elementsLeft s p) ≡ map I.Found (listIdentifiers x)
+list-known {s} {p} (E.close c e) = rw (none s p c)
+list-known {s} {p} (E.item {q} i rest) =
+    rw (next s 12 F.Identifier p q (omega arith) (identifier-reads s .full p q i), identifier-known i, list-known rest)
 
-none-stand : (s : List ℕ) (ps : List ℕ) → ps ≡ [] → Stand s ps []
-none-stand s ps e = rw e tt
+field-known : {s : List ℕ} {p q tag : ℕ} (f : FieldElement s p q tag)
+    → map (identifierAt s) (fieldIdentifiers s (fieldAt s p)) ≡ map I.Found (fieldIdentifier f)
+field-known {s} {p} (Z.title c) = rw (title-field s p _ (c .tagged .is) (ap titleField (text-written (c .one))))
+field-known {s} {p} (Z.seqid c) = rw (list-field s p (c .tagged .is)) (list-known (c .one .items))
+field-known {s} {p} (Z.taxid c) = rw (other-field s p 162 (c .tagged .is) (omega arith))
+field-known {s} {p} (Z.memberships c) = rw (other-field s p 163 (c .tagged .is) (omega arith))
+field-known {s} {p} (Z.links c) = rw (other-field s p 164 (c .tagged .is) (omega arith))
+field-known {s} {p} (Z.info c) = rw (other-field s p 165 (c .tagged .is) (omega arith))
 
-field-stand : {s : List ℕ} {p q tag : ℕ} (f : FieldElement s p q tag) → Stand s (fieldIdentifiers s (fieldAt s p)) (fieldIdentifier f)
-field-stand {s} {p} (Z.title c) = none-stand s _ (ap (fieldIdentifiers s) (title-field s p _ (c .tagged .is) (ap titleField (text-written (c .one)))))
-field-stand {s} {p} (Z.seqid c) = rw (list-field s p (c .tagged .is)) (list-stand (c .one .items))
-field-stand {s} {p} (Z.taxid c) = none-stand s _ (ap (fieldIdentifiers s) (other-field s p 162 (c .tagged .is) (omega arith)))
-field-stand {s} {p} (Z.memberships c) = none-stand s _ (ap (fieldIdentifiers s) (other-field s p 163 (c .tagged .is) (omega arith)))
-field-stand {s} {p} (Z.links c) = none-stand s _ (ap (fieldIdentifiers s) (other-field s p 164 (c .tagged .is) (omega arith)))
-field-stand {s} {p} (Z.info c) = none-stand s _ (ap (fieldIdentifiers s) (other-field s p 165 (c .tagged .is) (omega arith)))
+line-known : {s : List ℕ} {low p n : ℕ} (x : RisingFields s low p n)
+    → map (identifierAt s) (flatMap (λ q. fieldIdentifiers s (fieldAt s q)) (elementsLeft s p)) ≡ map I.Found (lineIdentifiers x)
+line-known {s} {low} {p} (Z.close c e) = rw (ended s p (λ q. fieldIdentifiers s (fieldAt s q)) c)
+line-known {s} {low} {p} (Z.field {q} tag h f rest) =
+    let r = field-reads s .full p q (tag, f) in
+    rw (known s 14 F.Field p q (omega arith) r (λ q. fieldIdentifiers s (fieldAt s q)) (identifierAt s), map-append, field-known f, line-known rest)
 
-line-stand : {s : List ℕ} {low p n : ℕ} (x : RisingFields s low p n)
-    → Stand s (flatMap (λ q. fieldIdentifiers s (fieldAt s q)) (elementsLeft s p)) (lineIdentifiers x)
-line-stand {s} {low} {p} (Z.close c e) = none-stand s _ (ended s p (λ q. fieldIdentifiers s (fieldAt s q)) c)
-line-stand {s} {low} {p} (Z.field {q} tag h f rest) =
-    rw (flat s 14 F.Field p q (omega arith) (field-reads s .full p q (tag, f)) (λ q. fieldIdentifiers s (fieldAt s q)))
-    (stand-append s (fieldIdentifiers s (fieldAt s p)) _ (fieldIdentifier f) (lineIdentifiers rest) (field-stand f) (line-stand rest))
-
-set-stand : {s : List ℕ} {p n : ℕ} (x : Items (DefLineElement s) s p n)
-    → Stand s (flatMap (identifiersIn s) (elementsLeft s p)) (setIdentifiers x)
+set-known : {s : List ℕ} {p n : ℕ} (x : Items (DefLineElement s) s p n)
+    → map (identifierAt s) (flatMap (identifiersIn s) (elementsLeft s p)) ≡ map I.Found (setIdentifiers x)
 unfolding identifiersIn
-set-stand {s} {p} (E.close c e) = none-stand s _ (ended s p (identifiersIn s) c)
-set-stand {s} {p} (E.item {q} line rest) =
-    rw (flat s 15 F.DefLine p q (omega arith) (def-line-reads s .full p q line) (identifiersIn s))
-    (stand-append s (identifiersIn s p) _ (lineIdentifiers (line .fields)) (setIdentifiers rest) (line-stand (line .fields)) (set-stand rest))
+set-known {s} {p} (E.close c e) = rw (ended s p (identifiersIn s) c)
+set-known {s} {p} (E.item {q} line rest) =
+    let r = def-line-reads s .full p q line in
+    rw (known s 15 F.DefLine p q (omega arith) r (identifiersIn s) (identifierAt s), map-append, line-known (line .fields), set-known rest)
 
 -- ---- the calls
-
-title-number : (ts : List Span) (k : ℕ) → titleGiven (titleFrom ts k) ≡ numbered ts k T.Title (λ _. T.Refused NoSuchSequence)
-title-number [] k = refl
-title-number (t ∷ ts) zero = refl
-title-number (t ∷ ts) (suc k) = title-number ts k
-
-place-number : (s : List ℕ) (ps : List ℕ) (is : List Identifier) (k : ℕ) → Stand s ps is
-    → identifierGiven s (placeFrom ps k) ≡ numbered is k I.Found (λ _. I.Refused NoSuchSequence)
-place-number s [] [] k h = refl
-place-number s [] (i ∷ is) k h = absurd h
-place-number s (p ∷ ps) [] k h = absurd h
-place-number s (p ∷ ps) (i ∷ is) zero h = h .0
-place-number s (p ∷ ps) (i ∷ is) (suc k) h = place-number s ps is k (h .1)
 
 module _ (header : List ℕ) (start end : ℕ) (good : GoodRecord header start end) where
   pub titles-are : titlesOf (take end header) start ≡ titlesWritten good
@@ -217,21 +190,27 @@ module _ (header : List ℕ) (start end : ℕ) (good : GoodRecord header start e
   pub title-is : (k : ℕ) → titleOf header start end k ≡ numbered (titlesWritten good) k T.Title (λ _. T.Refused NoSuchSequence)
   title-is k =
       sym (title-passed header start end k _ (good-passes header start end good) refl)
-      ∙ title-number (titlesOf (take end header) start) k
+      ∙ numbered-then titleGiven A.Found A.Left (titlesOf (take end header) start) k
       ∙ ap (λ (ts : List Span). numbered ts k T.Title (λ _. T.Refused NoSuchSequence)) titles-are
 
-  identifiers-stand : Stand (take end header) (identifiersOf (take end header) start) (identifiersWritten good)
+  identifiers-known : map (identifierAt (take end header)) (identifiersOf (take end header) start) ≡ map I.Found (identifiersWritten good)
   unfolding identifiersOf
-  identifiers-stand = set-stand (good .shape .items)
+  identifiers-known = set-known (good .shape .items)
 
   pub identifiers-count : length (identifiersOf (take end header) start) ≡ length (identifiersWritten good)
-  identifiers-count = stand-count (take end header) (identifiersOf (take end header) start) (identifiersWritten good) identifiers-stand
+  identifiers-count = simp length-map at (ap length identifiers-known)
 
   -- the identifier call gives identifier k of those that a good record writes, or 10
   pub identifier-is : (k : ℕ) → identifierOf header start end k ≡ numbered (identifiersWritten good) k I.Found (λ _. I.Refused NoSuchSequence)
   identifier-is k =
+      let s = take end header in
+      let places = identifiersOf s start in
+      let none : ℕ → IdentifierAnswer = λ _. I.Refused NoSuchSequence in
       sym (identifier-passed header start end k _ (good-passes header start end good) refl)
-      ∙ place-number (take end header) (identifiersOf (take end header) start) (identifiersWritten good) k identifiers-stand
+      ∙ numbered-then (identifierGiven s) P.Found P.Left places k
+      ∙ sym (numbered-map (identifierAt s) (λ x. x) none places k)
+      ∙ ap (λ (xs : List IdentifierAnswer). numbered xs k (λ x. x) none) identifiers-known
+      ∙ numbered-map I.Found (λ x. x) none (identifiersWritten good) k
 
   -- the first title call gives the title of the first def-line that a good record writes
   pub first-is : firstOf header start end ≡ firstWritten good
