@@ -33,9 +33,9 @@ module _ (s : List ℕ) (p b : ℕ) (e : b ≡ getD s p 0) where
     unfolding fieldAt
     field-other q = rw (← e, ne-eqb _ _ n, ne-eqb _ _ q)
 
-    pub field-title : (x : SpanAnswer) → b ≡ 160 → x ≡ textAt s (p + 2) → titleField x ≡ fieldAt s p
+    pub field-title : {x z : SpanAnswer} → b ≡ 160 → x ≡ textAt s (p + 2) → x ≡ z → titleField z ≡ fieldAt s p
     unfolding fieldAt
-    field-title x q t = rw (← e, ne-eqb _ _ n, eq-eqb _ _ q, ← t)
+    field-title q t h = rw (← e, ne-eqb _ _ n, eq-eqb _ _ q, ← t, h)
 
 -- ---- what a field holds
 

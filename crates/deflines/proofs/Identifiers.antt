@@ -5,6 +5,8 @@ use Prim.Native.Nat.{ℕ, _+_, _≤_}
 use native.Mathlib.Omega.{arith}
 use borrow.Author.Tests.{eq-eqb, ne-eqb}
 use lib.ListN.{length, getD}
+use Rattle.elements.specs.declared.IntegerAnswer.{IntegerAnswer}
+use Rattle.elements.specs.declared.SpanAnswer.{SpanAnswer}
 use Rattle.elements.specs.Parts.{integerAt, textAt}
 use Rattle.deflines.specs.declared.Field.{Field}
 use Rattle.deflines.specs.declared.Field.the-variants as L
@@ -18,26 +20,26 @@ use Rattle.deflines.specs.Calls.{giAnswer, numberAnswer, textAnswer, pla
 use Rattle.deflines.proofs.Lists.{Each, each-flat}
 use Rattle.deflines.proofs.Walks.{InPlace, elements-each, place-room}
 
-module _ (s : List ℕ) (p b : ℕ) (r : IdentifierAnswer) (e : b ≡ getD s p 0) where
-  pub local-number : b ≡ 160 → r ≡ numberAnswer (integerAt s (p + 2)) → r ≡ localAt s p
+module _ (s : List ℕ) (p b : ℕ) (e : b ≡ getD s p 0) where
+  pub local-number : {x z : IntegerAnswer} → b ≡ 160 → x ≡ integerAt s (p + 2) → x ≡ z → numberAnswer z ≡ localAt s p
   unfolding localAt
-  local-number q x = rw (← e, eq-eqb _ _ q) x
+  local-number q t h = rw (← e, eq-eqb _ _ q, ← t, h)
 
-  pub local-text : (b ≡ 160 → ⊥) → r ≡ textAnswer (textAt s (p + 2)) → r ≡ localAt s p
+  pub local-text : {x z : SpanAnswer} → (b ≡ 160 → ⊥) → x ≡ textAt s (p + 2) → x ≡ z → textAnswer z ≡ localAt s p
   unfolding localAt
-  local-text q x = rw (← e, ne-eqb _ _ q) x
+  local-text q t h = rw (← e, ne-eqb _ _ q, ← t, h)
 
-  pub identifier-gi : b ≡ 171 → r ≡ giAnswer (integerAt s (p + 2)) → r ≡ identifierAt s p
+  pub identifier-local : {x : IdentifierAnswer} → b ≡ 160 → x ≡ localAt s (p + 2) → x ≡ identifierAt s p
   unfolding identifierAt
-  identifier-gi q x = rw (← e, eq-eqb _ _ q) x
+  identifier-local q t = let n : b ≡ 171 → ⊥ = λ z. omega arith in rw (← e, ne-eqb _ _ n, eq-eqb _ _ q) t
 
-  pub identifier-local : b ≡ 160 → r ≡ localAt s (p + 2) → r ≡ identifierAt s p
+  pub identifier-other : (b ≡ 160 → ⊥) → (b ≡ 171 → ⊥) → I.Found (D.Other b) ≡ identifierAt s p
   unfolding identifierAt
-  identifier-local q x = let n : b ≡ 171 → ⊥ = λ z. omega arith in rw (← e, ne-eqb _ _ n, eq-eqb _ _ q) x
+  identifier-other q n = rw (← e, ne-eqb _ _ n, ne-eqb _ _ q)
 
-pub identifier-other : (s : List ℕ) (p b : ℕ) → b ≡ getD s p 0 → (b ≡ 171 → ⊥) → (b ≡ 160 → ⊥) → I.Found (D.Other b) ≡ identifierAt s p
-unfolding identifierAt
-identifier-other s p b e n q = rw (← e, ne-eqb _ _ n, ne-eqb _ _ q)
+  pub identifier-gi : {x z : IntegerAnswer} → b ≡ 171 → x ≡ integerAt s (p + 2) → x ≡ z → giAnswer z ≡ identifierAt s p
+  unfolding identifierAt
+  identifier-gi q t h = rw (← e, eq-eqb _ _ q, ← t, h)
 
 -- ---- identifiers stand within the file
 

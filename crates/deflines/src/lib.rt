@@ -10,7 +10,7 @@ ghost use mathlib.Core.Path.{_≡_};
 ghost use Prim.Native.Nat.{_+_, _≤_};
 ghost use lib.ListN.{length};
 ghost use Rattle.deflines.specs.Fields.{nextAt, elementsIn, fieldAt, titlesIn, titlesOf, identifiersIn, identifiersOf, firstTitles};
-ghost use Rattle.deflines.specs.Calls.{titleFrom, titleOf, placeFrom, giAnswer, numberAnswer, textAnswer, localAt, identifierAt, identifierOf, firstOf};
+ghost use Rattle.deflines.specs.Calls.{titleFrom, titleOf, placeFrom, localAt, identifierAt, identifierOf, firstOf};
 
 // The titles given before a title, and the numbers of identifiers, count through all def-lines of a record.
 
@@ -224,47 +224,24 @@ pub fn title(header: &[u8], start: u64, end: u64, given: u64) -> TitleAnswer
     }
 }
 
-// The gi identifier of an integer that was read.
-fn gi_answer(number: IntegerAnswer) -> IdentifierAnswer
-    ensures { λ r. ⌜ r ≡ giAnswer number ⌝ }
-{
-    match number {
-        IntegerAnswer::Integer(z) => IdentifierAnswer::Found(Identifier::Gi(z)),
-        IntegerAnswer::Refused(r) => IdentifierAnswer::Refused(r),
-    }
-}
-
-// The local identifier of an integer that was read.
-fn number_answer(number: IntegerAnswer) -> IdentifierAnswer
-    ensures { λ r. ⌜ r ≡ numberAnswer number ⌝ }
-{
-    match number {
-        IntegerAnswer::Integer(z) => IdentifierAnswer::Found(Identifier::Local(ObjectId::Number(
-            z,
-        ))),
-        IntegerAnswer::Refused(r) => IdentifierAnswer::Refused(r),
-    }
-}
-
-// The local identifier of a text that was read.
-fn text_answer(text: SpanAnswer) -> IdentifierAnswer
-    ensures { λ r. ⌜ r ≡ textAnswer text ⌝ }
-{
-    match text {
-        SpanAnswer::Part(t) => IdentifierAnswer::Found(Identifier::Local(ObjectId::Text(t))),
-        SpanAnswer::Refused(r) => IdentifierAnswer::Refused(r),
-    }
-}
-
 // The local name at a place.
 fn local_at(s: &[u8], p: usize) -> IdentifierAnswer
     requires { ⌜ p ≤ length (now s) ⌝ }
     ensures { λ r. ⌜ r ≡ localAt (now (s .entry)) p ⌝ }
 {
     if fields::byte(s, p) == 160 {
-        return number_answer(elements::integer(s, p + 2));
+        match elements::integer(s, p + 2) {
+            IntegerAnswer::Integer(z) => IdentifierAnswer::Found(Identifier::Local(ObjectId::Number(
+                z,
+            ))),
+            IntegerAnswer::Refused(r) => IdentifierAnswer::Refused(r),
+        }
+    } else {
+        match elements::text(s, p + 2) {
+            SpanAnswer::Part(t) => IdentifierAnswer::Found(Identifier::Local(ObjectId::Text(t))),
+            SpanAnswer::Refused(r) => IdentifierAnswer::Refused(r),
+        }
     }
-    text_answer(elements::text(s, p + 2))
 }
 
 // The identifier at a place.
@@ -273,13 +250,16 @@ fn identifier_at(s: &[u8], p: usize) -> IdentifierAnswer
     ensures { λ r. ⌜ r ≡ identifierAt (now (s .entry)) p ⌝ }
 {
     let b = fields::byte(s, p);
-    if b == 171 {
-        return gi_answer(elements::integer(s, p + 2));
-    }
     if b == 160 {
         return local_at(s, p + 2);
     }
-    IdentifierAnswer::Found(Identifier::Other(b))
+    if b != 171 {
+        return IdentifierAnswer::Found(Identifier::Other(b));
+    }
+    match elements::integer(s, p + 2) {
+        IntegerAnswer::Integer(z) => IdentifierAnswer::Found(Identifier::Gi(z)),
+        IntegerAnswer::Refused(r) => IdentifierAnswer::Refused(r),
+    }
 }
 
 // The identifier of a number, from 0 over all def-lines, of the record from start up to end of a header file.

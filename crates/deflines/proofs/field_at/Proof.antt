@@ -1,7 +1,4 @@
 -- `deflines::field_at`: the tag decides, and a title's text is read. Assumes nothing.
-use mathlib.Core.Path.{sym, _∙_}
-use mathlib.Core.Path.{ap}
-use Rattle.deflines.specs.Fields.{titleField}
 use Rattle.deflines.proofs.Fields.{field-identifiers, field-other, field-title}
 use borrow.Author.Needs.{needs}
 use Rattle.deflines.proofs.field_at.Statement.{statement}
@@ -32,10 +29,16 @@ enum-known-t : tie.Need-enum-known-t
 enum-known-t c = search needs
 
 returns-3 : tie.Need-returns-3
-returns-3 c = sym (ap titleField ((c .enum-told) .given .1)) ∙ field-title _ _ _ ((c .before .before .before .before .before .byte) .ensures) ((c .before .before .before .before .if1) .left) _ ((c .before .before .before .if2) .left) ((c .before .before .text) .ensures)
+returns-3 c =
+    field-title _ _ _ (c .before .before .before .before .before .byte .ensures)
+    (c .before .before .before .before .if1 .left) (c .before .before .before .if2 .left)
+    (c .before .before .text .ensures) (c .enum-told .given .1)
 
 returns-4 : tie.Need-returns-4
-returns-4 c = sym (ap titleField ((c .before .t) .given .1)) ∙ field-title _ _ _ ((c .before .before .before .before .before .before .byte) .ensures) ((c .before .before .before .before .before .if1) .left) _ ((c .before .before .before .before .if2) .left) ((c .before .before .before .text) .ensures)
+returns-4 c =
+    field-title _ _ _ (c .before .before .before .before .before .before .byte .ensures)
+    (c .before .before .before .before .before .if1 .left) (c .before .before .before .before .if2 .left)
+    (c .before .before .before .text .ensures) (c .before .t .given .1)
 
 pub field-at-spec : {M : Type 1} → statement M
 field-at-spec =

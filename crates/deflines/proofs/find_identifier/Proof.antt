@@ -46,7 +46,9 @@ returns-2 c =
     identifier-passed _ _ _ _ _ (passed (c .before .before .before .before .before .before)) (c .identifier-at .ensures ∙ ap (identifierGiven _) found)
 
 returns-3 : tie.Need-returns-3
-returns-3 c = identifier-passed _ _ _ _ _ (passed (c .before .before .before .before)) (ap (identifierGiven _) (sym (c .enum-told2 .given .1) ∙ c .before .before .identifier-in-record .ensures))
+returns-3 c =
+    identifier-passed _ _ _ _ _ (passed (c .before .before .before .before))
+    (ap (identifierGiven _) (sym (c .enum-told2 .given .1) ∙ c .before .before .identifier-in-record .ensures))
 
 pub find-identifier-spec : {M : Type 1} → statement M
 find-identifier-spec =

@@ -36,10 +36,14 @@ returns : tie.Need-returns
 returns c = first-denied _ _ _ _ (sym (c .before .before .before .check-record .ensures) ∙ c .before .r .given .1)
 
 returns-2 : tie.Need-returns-2
-returns-2 c = first-passed _ _ _ _ (passed (c .before .before .before .before .before)) (ap firstGiven (sym (c .before .t .given .1) ∙ c .before .before .before .title-in-first .ensures))
+returns-2 c =
+    first-passed _ _ _ _ (passed (c .before .before .before .before .before))
+    (ap firstGiven (sym (c .before .t .given .1) ∙ c .before .before .before .title-in-first .ensures))
 
 returns-3 : tie.Need-returns-3
-returns-3 c = first-passed _ _ _ _ (passed (c .before .before .before .before)) (ap firstGiven (sym (c .enum-told2 .given .1) ∙ c .before .before .title-in-first .ensures))
+returns-3 c =
+    first-passed _ _ _ _ (passed (c .before .before .before .before))
+    (ap firstGiven (sym (c .enum-told2 .given .1) ∙ c .before .before .title-in-first .ensures))
 
 pub first-title-spec : {M : Type 1} → statement M
 first-title-spec =

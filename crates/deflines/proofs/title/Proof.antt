@@ -36,10 +36,14 @@ returns : tie.Need-returns
 returns c = title-refused _ _ _ _ _ (sym (c .before .before .before .check-record .ensures) ∙ c .before .r .given .1)
 
 returns-2 : tie.Need-returns-2
-returns-2 c = title-passed _ _ _ _ _ (passed (c .before .before .before .before .before)) (ap titleGiven (sym (c .before .t .given .1) ∙ c .before .before .before .title-in-record .ensures))
+returns-2 c =
+    title-passed _ _ _ _ _ (passed (c .before .before .before .before .before))
+    (ap titleGiven (sym (c .before .t .given .1) ∙ c .before .before .before .title-in-record .ensures))
 
 returns-3 : tie.Need-returns-3
-returns-3 c = title-passed _ _ _ _ _ (passed (c .before .before .before .before)) (ap titleGiven (sym (c .enum-told2 .given .1) ∙ c .before .before .title-in-record .ensures))
+returns-3 c =
+    title-passed _ _ _ _ _ (passed (c .before .before .before .before))
+    (ap titleGiven (sym (c .enum-told2 .given .1) ∙ c .before .before .title-in-record .ensures))
 
 pub title-spec : {M : Type 1} → statement M
 title-spec =

@@ -15,13 +15,17 @@ enum-told : tie.Need-enum-told
 enum-told c = search needs
 
 returns : tie.Need-returns
-returns c = first-none ((c .before .before .before .before .args) .s .now) ((c .before .before .before .before .args) .start) _ (sym ((c .before .before .element-in-list) .ensures) ∙ (c .enum-told) .given .1)
+returns c = first-none _ _ _ (sym (c .before .before .element-in-list .ensures) ∙ c .enum-told .given .1)
 
 title-in-line-requires : tie.Need-title-in-line-requires
-title-in-line-requires c κs = line-room ((c .before .before .before .before .before .args) .s .now) ((c .before .before .before .before .before .args) .start) _ _ (sym ((c .before .before .before .element-in-list) .ensures) ∙ (c .before .found) .given .1)
+title-in-line-requires c κs =
+    let a = c .before .before .before .before .before .args in
+    line-room (a .s .now) (a .start) 0 _ (sym (c .before .before .before .element-in-list .ensures) ∙ c .before .found .given .1)
 
 returns-2 : tie.Need-returns-2
-returns-2 c = first-line ((c .before .before .before .before .before .before .args) .s .now) ((c .before .before .before .before .before .before .args) .start) _ _ (sym ((c .before .before .before .before .element-in-list) .ensures) ∙ (c .before .before .found) .given .1) ((c .title-in-line) .ensures)
+returns-2 c =
+    first-line _ _ _ _ (sym (c .before .before .before .before .element-in-list .ensures) ∙ c .before .before .found .given .1)
+    (c .title-in-line .ensures)
 
 pub title-in-first-spec : {M : Type 1} → statement M
 title-in-first-spec =
