@@ -181,37 +181,56 @@ pub read-deep : (depth : ℕ) (form : Form) (s : List ℕ) (at : ℕ) (x : Eleme
 unfolding read
 read-deep depth form s at x z p = rw z p
 
-pub read-started : (depth : ℕ) (form : Form) (s : List ℕ) (at : ℕ) (x : Start) → (depth ≡ 0 → ⊥) → startOf form s at ≡ x
-    → restOf (λ i n. read (depth - 1) i s n) form s at x ≡ read depth form s at
-unfolding read
-read-started depth form s at x z e =
-    let f : depth ≡ suc (depth - 1) = omega arith in
-    sym (ap (λ (d : ℕ). read d form s at) f ∙ rw e)
+module _ (form : Form) (s : List ℕ) (at : ℕ) {x : Start} (e : x ≡ startOf form s at) where
+  -- a list or a choice has two bytes
+  pub list-room : {i : Form} → x ≡ B.List i → at + 2 ≤ length s
+  list-room {i} q = let h = start-at form s at (B.List i) (sym e ∙ q) in omega arith
 
--- the turns of a list: it ends, an element may not follow, is refused, is passed
-module _ (inner : ℕ → ElementAnswer) (form : Form) (turns low : ℕ) (s : List ℕ) (p : ℕ) (l : 0 < turns) where
-  one : turns ≡ suc (turns - 1)
-  one = omega arith
+  pub choice-room : {i : Form} → x ≡ B.Choice i → at + 2 ≤ length s
+  choice-room {i} q = let h = start-at form s at (B.Choice i) (sym e ∙ q) in omega arith
 
-  pub list-ends : closes s p ≡ true → listEnd inner form turns low s p ≡ End (p + 2)
+  module _ (depth : ℕ) (deep : depth ≡ 0 → ⊥) where
+    pub read-started : {y : Start} → x ≡ y → restOf (λ i n. read (depth - 1) i s n) form s at y ≡ read depth form s at
+    unfolding read
+    read-started q =
+        let f : depth ≡ suc (depth - 1) = omega arith in
+        sym (ap (λ (d : ℕ). read d form s at) f ∙ rw (← e, q))
+
+    pub read-choice : {i : Form} {z r : ElementAnswer} → x ≡ B.Choice i → z ≡ Inner depth i s (at + 2) → r ≡ closedAt s z → r ≡ read depth form s at
+    read-choice q p c = c ∙ ap (closedAt s) p ∙ read-started q
+
+-- What is left of a list from p on, read by `inner`, gives the answer x of the whole element.
+pub record Rest (inner : ℕ → ElementAnswer) (form : Form) (low : ℕ) (s : List ℕ) (p : ℕ) (x : ElementAnswer) : Type 0 where
+  pub turns : ℕ
+  pub room : p ≤ length s
+  pub many : length s < turns + p
+  pub is : listEnd inner form turns low s p ≡ x
+
+pub rest-begins : (depth : ℕ) (form : Form) (s : List ℕ) (at : ℕ) {x : Start} {i : Form} → x ≡ startOf form s at → (depth ≡ 0 → ⊥) → x ≡ B.List i
+    → Rest (Inner depth i s) form 0 s (at + 2) (read depth form s at)
+rest-begins depth form s at e deep q =
+    record { turns = length s; room = list-room form s at e q; many = omega arith; is = read-started form s at e depth deep q }
+
+-- its turns: the list ends, an element may not follow, is refused, is passed
+module _ {inner : ℕ → ElementAnswer} {form : Form} {low : ℕ} {s : List ℕ} {p : ℕ} {x : ElementAnswer} (r : Rest inner form low s p x) where
+  turned : listEnd inner form (suc (r .turns - 1)) low s p ≡ x
+  turned = let f : r .turns ≡ suc (r .turns - 1) = omega arith in ap (λ (k : ℕ). listEnd inner form k low s p) (sym f) ∙ r .is
+
+  pub rest-ends : closes s p ≡ true → End (p + 2) ≡ x
   unfolding listEnd
-  list-ends c = ap (λ (k : ℕ). listEnd inner form k low s p) one ∙ rw c
+  rest-ends c = rw c at turned
 
-  module _ (c : closes s p ≡ false) (b : ℕ) (e : b ≡ getD s p 0) where
-    pub list-stray : mayFollow form low b ≡ false → listEnd inner form turns low s p ≡ bad
+  module _ (c : closes s p ≡ false) {b : ℕ} (e : b ≡ getD s p 0) where
+    pub rest-stray : mayFollow form low b ≡ false → bad ≡ x
     unfolding listEnd
-    list-stray m =
-        let f : mayFollow form low (getD s p 0) ≡ false = ap (mayFollow form low) (sym e) ∙ m in
-        ap (λ (k : ℕ). listEnd inner form k low s p) one ∙ rw (c, f)
+    rest-stray m = rw (c, ← e, m) at turned
 
-    pub list-refused : (r : Refusal) → mayFollow form low b ≡ true → inner p ≡ Refused r → listEnd inner form turns low s p ≡ Refused r
-    unfolding listEnd
-    list-refused r m t =
-        let f : mayFollow form low (getD s p 0) ≡ true = ap (mayFollow form low) (sym e) ∙ m in
-        ap (λ (k : ℕ). listEnd inner form k low s p) one ∙ rw (c, f, t)
+    module _ (m : mayFollow form low b ≡ true) {z : ElementAnswer} (t : z ≡ inner p) where
+      pub rest-refused : {f : Refusal} → z ≡ Refused f → z ≡ x
+      unfolding listEnd
+      rest-refused q = q ∙ (rw (c, ← e, m, ← t, q) at turned)
 
-    pub list-passed : (n : ℕ) → mayFollow form low b ≡ true → inner p ≡ End n → listEnd inner form turns low s p ≡ listEnd inner form (turns - 1) (b + 1) s n
-    unfolding listEnd
-    list-passed n m t =
-        let f : mayFollow form low (getD s p 0) ≡ true = ap (mayFollow form low) (sym e) ∙ m in
-        ap (λ (k : ℕ). listEnd inner form k low s p) one ∙ rw (c, f, t) (ap (λ (x : ℕ). listEnd inner form (turns - 1) (x + 1) s n) (sym e))
+      pub rest-passed : {n : ℕ} → z ≡ End n → (p + 1 < n) × (n ≤ length s) → Rest inner form (b + 1) s n x
+      unfolding listEnd
+      rest-passed {n} q w =
+          record { turns = r .turns - 1; room = w .1; many = omega (arith, r .many, w .0); is = rw (c, ← e, m, ← t, q) at turned }

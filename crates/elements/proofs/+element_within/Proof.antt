@@ -1,15 +1,14 @@
 -- `elements::element_within`: an inner element is read with one depth less. The loop's invariant says that the rest of the list, read from p on, gives the
 -- answer for the whole element. Assumes nothing.
 use native.Mathlib.Omega.{arith}
-use mathlib.Core.Path.{_≡_, sym, ap, _∙_}
+use mathlib.Core.Path.{sym, _∙_}
 use borrow.Author.Tests.{not-true, not-false}
-use Prim.Native.Nat.{_+_, _-_, _≤_}
+use Prim.Native.Nat.{ℕ, _-_, _<_}
 use lib.ListN.{length}
-use Rattle.elements.specs.declared.Start.the-variants as B
-use Rattle.elements.specs.Reading.{closedAt, listEnd, read}
-use Rattle.elements.proofs.Reading.{Inner, start-at, ends-within, closes-within, read-deep, read-started, list-ends, list-stray, list-refused, list-passed}
+use Rattle.elements.specs.Reading.{read}
+use Rattle.elements.proofs.Reading.{ends-within, closes-within, Inner, read-deep, list-room, choice-room, read-started, read-choice}
+use Rattle.elements.proofs.Reading.{Rest, rest-begins, rest-ends, rest-stray, rest-refused, rest-passed}
 use borrow.Author.Needs.{needs}
-use Prim.Native.Nat.{ℕ, _<_}
 use borrow.Fn.Kinds.{In}
 use borrow.Fn.PlainCycle.{Measures, is, falls, and}
 use Rattle.elements.proofs.element_within.Reads as element
@@ -35,10 +34,13 @@ element-below t = and 1 element-kinds.ps (falls 1 element-kinds.ps _<_ μ-elemen
 
 -- what the calls ask and tell; an inner element is read with one depth less
 abbrev claims : ℕ → element-lts.Claims
-claims t = (too-deep-reads.Asked, too-deep-reads.Learnt, start-of-reads.Asked, start-of-reads.Learnt, element-below t, element.Post, closed-reads.Asked, closed-reads.Learnt, closes-at-reads.Asked, closes-at-reads.Learnt, byte-reads.Asked, byte-reads.Learnt, may-follow-reads.Asked, may-follow-reads.Learnt)
+claims t =
+    (too-deep-reads.Asked, too-deep-reads.Learnt, start-of-reads.Asked, start-of-reads.Learnt, element-below t, element.Post, closed-reads.Asked,
+    closed-reads.Learnt, closes-at-reads.Asked, closes-at-reads.Learnt, byte-reads.Asked, byte-reads.Learnt, may-follow-reads.Asked,
+    may-follow-reads.Learnt)
 
 abbrev element-Inv-loop : element-lts.InvT-loop
-element-Inv-loop s at form depth inner p₀ low₀ p low = (p ≤ length s) × ((turns : ℕ) × (length s < turns + p) × (listEnd (Inner depth inner s) form turns low s p ≡ read depth form s at))
+element-Inv-loop s at form depth inner p₀ low₀ p low = Rest (Inner depth inner s) form low s p (read depth form s at)
 
 abbrev element-μ-loop : element-lts.MeasureT-loop
 element-μ-loop s at form depth inner p₀ low₀ p low = length s - p
@@ -47,7 +49,7 @@ element-too-deep-requires : (t : ℕ) → element-lts.Need-too-deep-requires (cl
 element-too-deep-requires t c κs = search needs
 
 element-returns : (t : ℕ) → element-lts.Need-returns (claims t) (element-at t) element.Post element-Inv-loop element-μ-loop
-element-returns t c = read-deep _ _ _ _ _ ((c .before .if1) .taken) ((c .too-deep) .ensures)
+element-returns t c = read-deep _ _ _ _ _ (c .before .if1 .taken) (c .too-deep .ensures)
 
 element-start-of-requires : (t : ℕ) → element-lts.Need-start-of-requires (claims t) (element-at t) element.Post element-Inv-loop element-μ-loop
 element-start-of-requires t c κs = search needs
@@ -59,7 +61,7 @@ element-enum-known-inner : (t : ℕ) → element-lts.Need-enum-known-inner (clai
 element-enum-known-inner t c = search needs
 
 element-add-element : (t : ℕ) → element-lts.Need-add-element-within (claims t) (element-at t) element.Post element-Inv-loop element-μ-loop
-element-add-element t c = omega (arith, start-at ((c .before .before .before .before .before .before .args) .form) ((c .before .before .before .before .before .before .args) .s .now) ((c .before .before .before .before .before .before .args) .at) (B.Choice ((c .before .inner) .given .0 .0)) (sym ((c .before .before .before .start-of) .ensures) ∙ (c .before .inner) .given .1))
+element-add-element t c = let h = choice-room _ _ _ (c .before .before .before .start-of .ensures) (c .before .inner .given .1) in omega arith
 
 element-sub-element : (t : ℕ) → element-lts.Need-sub-element-within (claims t) (element-at t) element.Post element-Inv-loop element-μ-loop
 element-sub-element t c = search needs
@@ -74,10 +76,10 @@ element-enum-known-inner-2 : (t : ℕ) → element-lts.Need-enum-known-inner-2 (
 element-enum-known-inner-2 t c = search needs
 
 element-add-p : (t : ℕ) → element-lts.Need-add-p (claims t) (element-at t) element.Post element-Inv-loop element-μ-loop
-element-add-p t c = omega (arith, start-at ((c .before .before .before .before .before .before .args) .form) ((c .before .before .before .before .before .before .args) .s .now) ((c .before .before .before .before .before .before .args) .at) (B.List ((c .before .inner2) .given .0 .0)) (sym ((c .before .before .before .start-of) .ensures) ∙ (c .before .inner2) .given .1))
+element-add-p t c = let h = list-room _ _ _ (c .before .before .before .start-of .ensures) (c .before .inner2 .given .1) in omega arith
 
 element-loop-holds : (t : ℕ) → element-lts.Need-loop-holds (claims t) (element-at t) element.Post element-Inv-loop element-μ-loop
-element-loop-holds t c = (omega (arith, start-at ((c .before .before .before .before .before .before .args) .form) ((c .before .before .before .before .before .before .args) .s .now) ((c .before .before .before .before .before .before .args) .at) (B.List ((c .before .inner2) .given .0 .0)) (sym ((c .before .before .before .start-of) .ensures) ∙ (c .before .inner2) .given .1)), (length ((c .before .before .before .before .before .before .args) .s .now), omega arith, read-started ((c .before .before .before .before .before .before .args) .depth) ((c .before .before .before .before .before .before .args) .form) ((c .before .before .before .before .before .before .args) .s .now) ((c .before .before .before .before .before .before .args) .at) (B.List ((c .before .inner2) .given .0 .0)) ((c .before .before .before .before .if1) .left) (sym ((c .before .before .before .start-of) .ensures) ∙ (c .before .inner2) .given .1)))
+element-loop-holds t c = rest-begins _ _ _ _ (c .before .before .before .start-of .ensures) (c .before .before .before .before .if1 .left) (c .before .inner2 .given .1)
 
 element-closes-at-requires : (t : ℕ) → element-lts.Need-closes-at-requires (claims t) (element-at t) element.Post element-Inv-loop element-μ-loop
 element-closes-at-requires t c κs = search needs
@@ -92,7 +94,9 @@ element-may-follow-requires : (t : ℕ) → element-lts.Need-may-follow-requires
 element-may-follow-requires t c κs = search needs
 
 element-returns-2 : (t : ℕ) → element-lts.Need-returns-2 (claims t) (element-at t) element.Post element-Inv-loop element-μ-loop
-element-returns-2 t c = sym (list-stray (Inner ((c .before .before .before .before .before .before .before .before .before .before .before .before .args) .depth) ((c .before .before .before .before .before .before .before .inner2) .given .0 .0) ((c .before .before .before .before .before .before .before .before .before .before .before .before .args) .s .now)) ((c .before .before .before .before .before .before .before .before .before .before .before .before .args) .form) ((c .before .before .before .before .before .loop) .inv .1 .0) ((c .before .before .before .before .before .loop) .low) ((c .before .before .before .before .before .before .before .before .before .before .before .before .args) .s .now) ((c .before .before .before .before .before .loop) .p) (omega (arith, (c .before .before .before .before .before .loop) .inv)) (sym ((c .before .before .before .before .closes-at) .ensures) ∙ not-true _ ((c .before .before .before .if2) .taken)) ((c .before .before .byte) .result) ((c .before .before .byte) .ensures) (sym ((c .before .may-follow) .ensures) ∙ not-true _ ((c .if3) .taken))) ∙ (c .before .before .before .before .before .loop) .inv .1 .2
+element-returns-2 t c =
+    rest-stray (c .before .before .before .before .before .loop .inv) (sym (c .before .before .before .before .closes-at .ensures) ∙ not-true _ (c .before .before .before .if2 .taken))
+    (c .before .before .byte .ensures) (sym (c .before .may-follow .ensures) ∙ not-true _ (c .if3 .taken))
 
 element-sub-element-2 : (t : ℕ) → element-lts.Need-sub-element-within-2 (claims t) (element-at t) element.Post element-Inv-loop element-μ-loop
 element-sub-element-2 t c = search needs
@@ -107,28 +111,41 @@ element-enum-told : (t : ℕ) → element-lts.Need-enum-told (claims t) (element
 element-enum-told t c = search needs
 
 element-returns-3 : (t : ℕ) → element-lts.Need-returns-3 (claims t) (element-at t) element.Post element-Inv-loop element-μ-loop
-element-returns-3 t c = (c .enum-told) .given .1 ∙ sym (list-refused (Inner ((c .before .before .before .before .before .before .before .before .before .before .before .before .before .before .before .args) .depth) ((c .before .before .before .before .before .before .before .before .before .before .inner2) .given .0 .0) ((c .before .before .before .before .before .before .before .before .before .before .before .before .before .before .before .args) .s .now)) ((c .before .before .before .before .before .before .before .before .before .before .before .before .before .before .before .args) .form) ((c .before .before .before .before .before .before .before .before .loop) .inv .1 .0) ((c .before .before .before .before .before .before .before .before .loop) .low) ((c .before .before .before .before .before .before .before .before .before .before .before .before .before .before .before .args) .s .now) ((c .before .before .before .before .before .before .before .before .loop) .p) (omega (arith, (c .before .before .before .before .before .before .before .before .loop) .inv)) (sym ((c .before .before .before .before .before .before .before .closes-at) .ensures) ∙ not-true _ ((c .before .before .before .before .before .before .if2) .taken)) ((c .before .before .before .before .before .byte) .result) ((c .before .before .before .before .before .byte) .ensures) _ (sym ((c .before .before .before .before .may-follow) .ensures) ∙ not-false _ ((c .before .before .before .if3) .left)) (sym ((c .before .before .element-within2) .ensures) ∙ (c .enum-told) .given .1)) ∙ (c .before .before .before .before .before .before .before .before .loop) .inv .1 .2
+element-returns-3 t c =
+    rest-refused (c .before .before .before .before .before .before .before .before .loop .inv)
+    (sym (c .before .before .before .before .before .before .before .closes-at .ensures) ∙ not-true _ (c .before .before .before .before .before .before .if2 .taken))
+    (c .before .before .before .before .before .byte .ensures)
+    (sym (c .before .before .before .before .may-follow .ensures) ∙ not-false _ (c .before .before .before .if3 .left))
+    (c .before .before .element-within2 .ensures) (c .enum-told .given .1)
 
 element-add-low : (t : ℕ) → element-lts.Need-add-low (claims t) (element-at t) element.Post element-Inv-loop element-μ-loop
 element-add-low t c = search needs
 
 element-loop-less : (t : ℕ) → element-lts.Need-loop-less (claims t) (element-at t) element.Post element-Inv-loop element-μ-loop
-element-loop-less t c = omega (arith, ends-within ((c .before .before .before .before .before .before .before .before .before .before .before .before .before .before .before .before .args) .depth - 1) ((c .before .before .before .before .before .before .before .before .before .before .before .inner2) .given .0 .0) ((c .before .before .before .before .before .before .before .before .before .before .before .before .before .before .before .before .args) .s .now) ((c .before .before .before .before .before .before .before .before .before .loop) .p) _ (sym ((c .before .before .before .element-within2) .ensures) ∙ (c .before .e) .given .1))
+element-loop-less t c = let w = ends-within _ _ _ _ _ (sym (c .before .before .before .element-within2 .ensures) ∙ c .before .e .given .1) in omega arith
 
 element-loop-again : (t : ℕ) → element-lts.Need-loop-again (claims t) (element-at t) element.Post element-Inv-loop element-μ-loop
-element-loop-again t c = let w = ends-within ((c .before .before .before .before .before .before .before .before .before .before .before .before .before .before .before .before .args) .depth - 1) ((c .before .before .before .before .before .before .before .before .before .before .before .inner2) .given .0 .0) ((c .before .before .before .before .before .before .before .before .before .before .before .before .before .before .before .before .args) .s .now) ((c .before .before .before .before .before .before .before .before .before .loop) .p) _ (sym ((c .before .before .before .element-within2) .ensures) ∙ (c .before .e) .given .1) in (w .1, ((c .before .before .before .before .before .before .before .before .before .loop) .inv .1 .0 - 1, omega (arith, (c .before .before .before .before .before .before .before .before .before .loop) .inv, w), sym (list-passed (Inner ((c .before .before .before .before .before .before .before .before .before .before .before .before .before .before .before .before .args) .depth) ((c .before .before .before .before .before .before .before .before .before .before .before .inner2) .given .0 .0) ((c .before .before .before .before .before .before .before .before .before .before .before .before .before .before .before .before .args) .s .now)) ((c .before .before .before .before .before .before .before .before .before .before .before .before .before .before .before .before .args) .form) ((c .before .before .before .before .before .before .before .before .before .loop) .inv .1 .0) ((c .before .before .before .before .before .before .before .before .before .loop) .low) ((c .before .before .before .before .before .before .before .before .before .before .before .before .before .before .before .before .args) .s .now) ((c .before .before .before .before .before .before .before .before .before .loop) .p) (omega (arith, (c .before .before .before .before .before .before .before .before .before .loop) .inv)) (sym ((c .before .before .before .before .before .before .before .before .closes-at) .ensures) ∙ not-true _ ((c .before .before .before .before .before .before .before .if2) .taken)) ((c .before .before .before .before .before .before .byte) .result) ((c .before .before .before .before .before .before .byte) .ensures) _ (sym ((c .before .before .before .before .before .may-follow) .ensures) ∙ not-false _ ((c .before .before .before .before .if3) .left)) (sym ((c .before .before .before .element-within2) .ensures) ∙ (c .before .e) .given .1)) ∙ (c .before .before .before .before .before .before .before .before .before .loop) .inv .1 .2))
+element-loop-again t c =
+    rest-passed (c .before .before .before .before .before .before .before .before .before .loop .inv)
+    (sym (c .before .before .before .before .before .before .before .before .closes-at .ensures) ∙ not-true _ (c .before .before .before .before .before .before .before .if2 .taken))
+    (c .before .before .before .before .before .before .byte .ensures)
+    (sym (c .before .before .before .before .before .may-follow .ensures) ∙ not-false _ (c .before .before .before .before .if3 .left))
+    (c .before .before .before .element-within2 .ensures) (c .before .e .given .1)
+    (ends-within _ _ _ _ _ (sym (c .before .before .before .element-within2 .ensures) ∙ c .before .e .given .1))
 
 element-add-t24 : (t : ℕ) → element-lts.Need-add-t24 (claims t) (element-at t) element.Post element-Inv-loop element-μ-loop
-element-add-t24 t c = omega (arith, closes-within ((c .before .before .before .before .before .before .before .before .before .args) .s .now) ((c .before .before .loop) .p) (sym ((c .before .closes-at) .ensures) ∙ not-false _ ((c .if2) .left)))
+element-add-t24 t c = let h = closes-within _ _ (sym (c .before .closes-at .ensures) ∙ not-false _ (c .if2 .left)) in omega arith
 
 element-returns-4 : (t : ℕ) → element-lts.Need-returns-4 (claims t) (element-at t) element.Post element-Inv-loop element-μ-loop
-element-returns-4 t c = read-started ((c .before .before .before .before .before .before .args) .depth) ((c .before .before .before .before .before .before .args) .form) ((c .before .before .before .before .before .before .args) .s .now) ((c .before .before .before .before .before .before .args) .at) (B.Ended ((c .before .answer) .given .0 .0)) ((c .before .before .before .before .if1) .left) (sym ((c .before .before .before .start-of) .ensures) ∙ (c .before .answer) .given .1)
+element-returns-4 t c = read-started _ _ _ (c .before .before .before .start-of .ensures) _ (c .before .before .before .before .if1 .left) (c .before .answer .given .1)
 
 element-returns-5 : (t : ℕ) → element-lts.Need-returns-5 (claims t) (element-at t) element.Post element-Inv-loop element-μ-loop
-element-returns-5 t c = (c .closed) .ensures ∙ ap (closedAt ((c .before .before .before .before .before .before .before .before .args) .s .now)) ((c .before .element-within) .ensures) ∙ read-started ((c .before .before .before .before .before .before .before .before .args) .depth) ((c .before .before .before .before .before .before .before .before .args) .form) ((c .before .before .before .before .before .before .before .before .args) .s .now) ((c .before .before .before .before .before .before .before .before .args) .at) (B.Choice ((c .before .before .before .inner) .given .0 .0)) ((c .before .before .before .before .before .before .if1) .left) (sym ((c .before .before .before .before .before .start-of) .ensures) ∙ (c .before .before .before .inner) .given .1)
+element-returns-5 t c =
+    read-choice _ _ _ (c .before .before .before .before .before .start-of .ensures) _ (c .before .before .before .before .before .before .if1 .left) (c .before .before .before .inner .given .1)
+    (c .before .element-within .ensures) (c .closed .ensures)
 
 element-returns-6 : (t : ℕ) → element-lts.Need-returns-6 (claims t) (element-at t) element.Post element-Inv-loop element-μ-loop
-element-returns-6 t c = sym (list-ends (Inner ((c .before .before .before .before .before .before .before .before .before .args) .depth) ((c .before .before .before .before .inner2) .given .0 .0) ((c .before .before .before .before .before .before .before .before .before .args) .s .now)) ((c .before .before .before .before .before .before .before .before .before .args) .form) ((c .before .before .loop) .inv .1 .0) ((c .before .before .loop) .low) ((c .before .before .before .before .before .before .before .before .before .args) .s .now) ((c .before .before .loop) .p) (omega (arith, (c .before .before .loop) .inv)) (sym ((c .before .closes-at) .ensures) ∙ not-false _ ((c .if2) .left))) ∙ (c .before .before .loop) .inv .1 .2
+element-returns-6 t c = rest-ends (c .before .before .loop .inv) (sym (c .before .closes-at .ensures) ∙ not-false _ (c .if2 .left))
 
 pub +element-within-spec : {M : Type 1} → statement M
 +element-within-spec = close μ-element λ t. element-lts.spec (claims t)
