@@ -1,3 +1,4 @@
+pub mod Sixes
 pub mod Bytes
 pub mod Rules
 pub mod Bodies

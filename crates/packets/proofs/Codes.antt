@@ -1,5 +1,5 @@
 -- The codes of a packet, one by one, and its tests. Assumes nothing.
-use mathlib.Core.Path.{_≡_, refl, ap, _∙_}
+use mathlib.Core.Path.{_≡_, refl, sym, ap, _∙_}
 use mathlib.Core.Bool.{Bool, true, false, not, cond, _&&_}
 use mathlib.Core.List.{List, [], _∷_}
 use Prim.Native.Nat.{ℕ, suc, _+_, _/_, _%_, _^_, _-_, _≤_, _<_}
@@ -10,7 +10,7 @@ use lib.Seq.{paste, length-take-le}
 use borrow.Author.Tests.{lt-ltb, le-ltb, eq-eqb, ne-eqb, eqb-true, eqb-false, le-leb}
 use Rattle.laws.specs.Digits.{digits, allBelow}
 use Rattle.laws.specs.Writing.{writtenAt}
-use Rattle.laws.proofs.Tests.{bool-cases}
+use Rattle.laws.proofs.Tests.{never, bool-cases, both-pass, cond-passed}
 use Rattle.laws.proofs.Digits.{digit, digits-cons, digits-none, length-digits, below-parts}
 use Rattle.laws.proofs.Writing.{write-step, rest-step}
 use Rattle.residues.specs.Alphabets.{isAmino, codeLimit}
@@ -18,14 +18,6 @@ use Rattle.packets.specs.Runs.{endsRun, isFiveBit, codesIn, beforeFill, 
 use Rattle.packets.specs.Decoded.{putAt, codesPut, residuesPut}
 
 module _ (k n p : ℕ) (h : 0 < n) where
-  pub below-next : (m : ℕ) → digit k (n - 1) p < m → allBelow m (digits k n p) ≡ allBelow m (digits k (n - 1) p)
-  unfolding allBelow
-  below-next m l = rw (digits-cons k n p h, lt-ltb (digit k (n - 1) p) m l)
-
-  pub below-stops : (m : ℕ) → m ≤ digit k (n - 1) p → allBelow m (digits k n p) ≡ false
-  unfolding allBelow
-  below-stops m l = rw (digits-cons k n p h, le-ltb (digit k (n - 1) p) m l)
-
   pub fill-next : digit k (n - 1) p ≡ 31 → onlyFill (digits k n p) ≡ onlyFill (digits k (n - 1) p)
   unfolding onlyFill
   fill-next l = rw (digits-cons k n p h, eq-eqb (digit k (n - 1) p) 31 l)
@@ -55,10 +47,6 @@ module _ (k n p : ℕ) (h : 0 < n) where
   before-ends l = rw (digits-cons k n p h, eq-eqb (digit k (n - 1) p) 31 l)
 
 module _ (k n p : ℕ) (h : n ≤ 0) where
-  pub below-done : (m : ℕ) → allBelow m (digits k n p) ≡ true
-  unfolding allBelow
-  below-done m = rw (digits-none k n p h)
-
   pub fill-done : onlyFill (digits k n p) ≡ true
   unfolding onlyFill
   fill-done = rw (digits-none k n p h)
@@ -152,6 +140,20 @@ residues-most p =
     bool-cases (isFiveBit p)
     (λ e. omega (arith, ap length (residues-five p (eqb-true _ 1 e)), before-le (digits 5 6 p), length-digits 5 6 p))
     (λ e. omega (arith, ap length (residues-two p (eqb-false _ 1 e)), length-digits 2 15 p))
+
+-- .. and as many codes
+pub codes-most : (p : ℕ) → length (codesIn p) ≤ 15
+codes-most p =
+    bool-cases (isFiveBit p)
+    (λ e. omega (arith, ap length (codes-five p (eqb-true _ 1 e)), length-digits 5 6 p))
+    (λ e. omega (arith, ap length (codes-two p (eqb-false _ 1 e)), length-digits 2 15 p))
+
+-- a packet that may stand in an amino run has 5-bit codes
+pub amino-codes : (p : ℕ) → inner 3 p ≡ true → codesIn p ≡ digits 5 6 p
+amino-codes p e =
+    let q = both-pass (not (endsRun p)) (cond (isFiveBit p) (allBelow 28 (digits 5 6 p)) false) (sym (inner-is 3 p) ∙ e) in
+    let f = cond-passed (isFiveBit p) (λ (z : false ≡ true). never z) (q .1) .0 in
+    codes-five p (eqb-true _ 1 f)
 
 -- ---- codes written
 

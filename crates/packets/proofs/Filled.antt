@@ -1,19 +1,16 @@
 -- The codes of the next packet, as the code adds them up. Assumes nothing.
 use mathlib.Core.Path.{_≡_, refl, _∙_}
-use mathlib.Core.Bool.{true}
 use mathlib.Core.List.{List, [], _∷_}
-use Prim.Native.Nat.{ℕ, zero, suc, _+_, _*_, _^_, _<_, _≤_}
+use Prim.Native.Nat.{ℕ, zero, suc, _+_, _*_, _<_}
 use native.Mathlib.Omega.{arith}
 use lib.ListN.{length, take, drop, getD}
-use lib.Pow.{pow-mono}
-use lib.Seq.{drop-drop, getD-drop, take-suc, take-take, length-take-le}
+use lib.Seq.{drop-drop, getD-drop, take-suc}
 use native.Mathlib.Nat.{add-zero}
 use native.Mathlib.Numerals.{add-one}
-use Rattle.laws.specs.Digits.{value, allBelow}
+use Rattle.laws.specs.Digits.{value}
 use Rattle.laws.proofs.Numbers.{value-more}
-use Rattle.laws.proofs.Digits.{below-take, value-below}
-use Rattle.packets.specs.Packing.{plain, filled, fiveBitPart}
-use Rattle.packets.proofs.Packing.{plain-long, plain-below, filled-cons, filled-none}
+use Rattle.packets.specs.Packing.{filled, fiveBitPart}
+use Rattle.packets.proofs.Packing.{filled-cons, filled-none}
 
 -- the default does not matter within the list
 pub code-inside : (cs : List ℕ) (k : ℕ) → k < length cs → getD cs k 0 ≡ getD cs k 31
@@ -44,12 +41,3 @@ two-more j cs h = rw (add-one j, take-suc cs j 0 h) (value-more 2 0 (take j cs) 
 pub two-none : (cs : List ℕ) → value 2 0 (take 0 cs) ≡ 0
 unfolding value
 two-none cs = refl
-
--- what is added up so far stays below 2^30
-pub two-so-far : (j : ℕ) (cs : List ℕ) → plain 15 cs ≡ true → j ≤ 15 → value 2 0 (take j cs) < 2 ^ 30
-two-so-far j cs e h =
-    let l : length (take j cs) ≡ j = length-take-le j cs (omega (arith, plain-long 15 cs e)) in
-    let b : allBelow 4 (take j cs) ≡ true = rw take-take at (below-take 4 j (take 15 cs) (plain-below 15 cs e)) in
-    let v : value 2 0 (take j cs) < 2 ^ (2 * j) = rw l at (value-below 2 (take j cs) b) in
-    let m : 2 ^ (2 * j) ≤ 2 ^ 30 = pow-mono {i = 2 * j} {j = 30} (omega arith) in
-    omega arith

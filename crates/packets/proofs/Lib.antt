@@ -1,7 +1,9 @@
 pub mod Packing
 pub mod Codes
 pub mod Fours
+pub mod Faults
 pub mod Filled
+pub mod Bases
 pub mod Steps
 pub mod Packed
 pub mod Round

@@ -1,8 +1,8 @@
 -- Laws of the packing rule, packet by packet. Assumes nothing.
 use mathlib.Core.Path.{_≡_, refl, sym, ap, _∙_}
-use mathlib.Core.Bool.{Bool, true, false, not, _&&_}
+use mathlib.Core.Bool.{Bool, true, false, not}
 use mathlib.Core.List.{List, [], _∷_}
-use Prim.Native.Nat.{ℕ, zero, suc, pred, _+_, _^_, _-_, _≤_, _<_, min, max}
+use Prim.Native.Nat.{ℕ, zero, suc, pred, _+_, _^_, _-_, _≤_, _<_, min}
 use native.Mathlib.Omega.{arith}
 use lib.Dec.{leb, ltb, lit≤, lit<}
 use lib.ListN.{length, take, drop, getD, length-drop, drop-of-length-le}
@@ -11,7 +11,6 @@ use borrow.Author.Tests.{lt-ltb, ltb-true, le-leb, lt-leb, leb-true, leb-false}
 use Rattle.laws.specs.Digits.{value, allBelow}
 use Rattle.laws.proofs.Tests.{never, bool-cases, both-pass}
 use Rattle.laws.proofs.Digits.{below-parts, below-cons, below-none, value-below}
-use Rattle.laws.proofs.Numbers.{larger-below}
 use Rattle.residues.specs.Alphabets.{isAmino, codeLimit}
 use Rattle.packets.specs.Packing.{plain, isTwoBit, sizeOf, filled, twoBitPart, fiveBitPart, endBit, packetOf, size, packet, later, run}
 
@@ -25,10 +24,6 @@ plain-long (suc n) (c ∷ cs) e = omega (arith, plain-long n cs (both-pass (ltb 
 
 pub plain-short : (n : ℕ) (cs : List ℕ) → length cs < n → plain n cs ≡ false
 plain-short n cs h = bool-cases (plain n cs) (λ p. let z : ⊥ = omega (arith, plain-long n cs p) in absurd z) (λ p. p)
-
-pub plain-none : (cs : List ℕ) → plain 0 cs ≡ true
-unfolding plain
-plain-none cs = refl
 
 pub plain-below : (n : ℕ) (cs : List ℕ) → plain n cs ≡ true → allBelow 4 (take n cs) ≡ true
 unfolding plain
@@ -46,27 +41,6 @@ below-plain (suc n) [] h e = let z : ⊥ = omega arith in absurd z
 below-plain (suc n) (c ∷ cs) h e =
     let p = below-parts 4 c (take n cs) e in
     rw (lt-ltb c 4 (p .0)) (below-plain n cs (omega arith) (p .1))
-
-and-swap : (a b c : Bool) → (a && (b && c)) ≡ ((a && b) && c)
-and-swap true b c = refl
-and-swap false b c = refl
-
--- one code more
-pub plain-more : (j : ℕ) (cs : List ℕ) → j < length cs → plain (j + 1) cs ≡ (plain j cs && ltb (getD cs j 0) 4)
-unfolding plain
-plain-more j [] h = let z : ⊥ = omega arith in absurd z
-plain-more zero (c ∷ cs) h = and-true (ltb c 4)
-  where
-    and-true : (b : Bool) → (b && true) ≡ b
-    and-true true = refl
-    and-true false = refl
-plain-more (suc j) (c ∷ cs) h =
-    let e : suc j + 1 ≡ suc (j + 1) = omega arith in
-    rw (e, plain-more j cs (omega arith)) (and-swap (ltb c 4) (plain j cs) (ltb (getD cs j 0) 4))
-
--- a turn of the loop that finds the largest of the next codes
-pub plain-turn : (most j : ℕ) (cs : List ℕ) → j < length cs → ltb most 4 ≡ plain j cs → ltb (max most (getD cs j 0)) 4 ≡ plain (j + 1) cs
-plain-turn most j cs h e = larger-below most (getD cs j 0) 4 ∙ rw (e, plain-more j cs h)
 
 -- ---- the codes of a packet
 

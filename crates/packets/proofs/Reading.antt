@@ -3,13 +3,18 @@
 use mathlib.Core.Path.{_≡_, refl, sym, ap, _∙_}
 use mathlib.Core.Bool.{Bool, true, false}
 use mathlib.Core.List.{List}
-use Prim.Native.Nat.{ℕ, _+_, _*_, _≤_, _<_}
+use Prim.Native.Nat.{ℕ, zero, suc, _+_, _*_, _≤_, _<_}
+use native.Mathlib.Numerals.{add-one}
 use native.Mathlib.Omega.{arith}
 use lib.ListN.{length, drop, getD}
 use Rattle.packets.specs.declared.RunState.{RunState}
 use Rattle.packets.specs.declared.RunState.the-variants.{Empty}
 use Rattle.packets.specs.Runs.{codesIn, residues, inner, wellFormed, unpacked}
 use Rattle.packets.specs.Steps.{runStep, runSteps, stateAfter, ended}
+use Rattle.laws.specs.Places.{every, sumTo}
+use Rattle.laws.proofs.Digits.{length-digits}
+use Rattle.laws.proofs.Tests.{never, bool-cases, both-pass}
+use Rattle.packets.proofs.Codes.{codes-most, amino-codes}
 use Rattle.packets.proofs.Lengths.{unpacked-most}
 use Rattle.packets.proofs.Shapes.{inner-not, count-inner, count-last}
 use Rattle.packets.proofs.Steps.{inner-turn, last-turn}
@@ -50,3 +55,39 @@ module _ (a : ℕ) (ps : List ℕ) where
     read-total total n l r m =
         let k : n ≡ length (residues (getD ps i 0)) = m ∙ ap (λ (x : ℕ). length (residues x)) h in
         omega (arith, r .count, count-last ps i l)
+
+  -- ---- all packets before the last at once
+
+  abbrev pub Stands : ℕ → Bool
+  Stands n = every (λ k. inner a (getD ps k 0)) n
+
+  abbrev pub Counted : ℕ → ℕ
+  Counted n = sumTo (λ k. length (codesIn (getD ps k 0))) n
+
+  -- each may stand there
+  pub read-all : (n : ℕ) → n < length ps → Stands n ≡ true → ReadTo n (Counted n)
+  read-all zero h e = read-none
+  read-all (suc n) h e =
+      let p = both-pass (Stands n) (inner a (getD ps n 0)) e in
+      let r = read-inner n (getD ps n 0) refl (Counted n) (length (codesIn (getD ps n 0))) (inner a (getD ps n 0)) (omega arith) refl (p .1) refl (read-all n (omega arith) (p .0)) in
+      rw add-one at r
+
+  -- one may not
+  pub stands-not : (n : ℕ) → n < length ps → Stands n ≡ false → wellFormed a ps ≡ false
+  stands-not zero h e = never (sym e)
+  stands-not (suc n) h e =
+      bool-cases (Stands n)
+      (λ t. let f : inner a (getD ps n 0) ≡ false = rw t at e in inner-not a ps n (omega arith) f)
+      (λ t. stands-not n (omega arith) t)
+
+  pub counted-most : (n : ℕ) → Counted n ≤ 15 * n
+  counted-most zero = omega arith
+  counted-most (suc n) = omega (arith, counted-most n, codes-most (getD ps n 0))
+
+  -- six to each, for amino
+  pub counted-amino : (n : ℕ) → a ≡ 3 → Stands n ≡ true → Counted n ≡ 6 * n
+  counted-amino zero t e = omega arith
+  counted-amino (suc n) t e =
+      let p = both-pass (Stands n) (inner a (getD ps n 0)) e in
+      let f : inner 3 (getD ps n 0) ≡ true = rw t at (p .1) in
+      omega (arith, counted-amino n t (p .0), ap length (amino-codes (getD ps n 0) f), length-digits 5 6 (getD ps n 0))

@@ -3,9 +3,9 @@
 -- Assumes nothing.
 use mathlib.Core.Bool.{Bool, true, false, not, cond, _&&_}
 use mathlib.Core.List.{List, [], _∷_}
-use Prim.Native.Nat.{ℕ, zero, suc, pred, _+_, _/_, _^_, min, max}
+use Prim.Native.Nat.{ℕ, zero, suc, pred, _+_, _*_, _/_, _^_, min, max}
 use lib.Dec.{leb, ltb}
-use lib.ListN.{length, take}
+use lib.ListN.{length, take, getD}
 use Rattle.laws.specs.Digits.{value}
 use Rattle.residues.specs.Alphabets.{isAmino}
 
@@ -14,6 +14,10 @@ unfoldable pub plain : ℕ → List ℕ → Bool
 plain zero next = true
 plain (suc n) [] = false
 plain (suc n) (c ∷ next) = ltb c 4 && plain n next
+
+-- Four codes from a place on, as the bytes of a number, the first in the lowest.
+abbrev pub fourFrom : List ℕ → ℕ → ℕ
+fourFrom next at = getD next at 0 + getD next (at + 1) 0 * 256 + getD next (at + 2) 0 * 65536 + getD next (at + 3) 0 * 16777216
 
 -- For nucleic, if at least 15 remain and the next 15 codes are all below 4, a 2-bit packet; otherwise a 5-bit packet.
 unfoldable pub isTwoBit : ℕ → List ℕ → Bool

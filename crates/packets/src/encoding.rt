@@ -2,12 +2,12 @@
 use crate::Next;
 ghost use mathlib.Core.Path.{_≡_};
 ghost use mathlib.Core.Bool.{true};
-ghost use Prim.Native.Nat.{_^_, _%_, _≤_, _<_, max};
+ghost use Prim.Native.Nat.{_+_, _*_, _/_, _^_, _%_, _≤_, _<_, max};
 ghost use lib.Dec.{leb};
 ghost use lib.ListN.{length, getD};
 ghost use Rattle.laws.specs.Places.{largestTo};
 ghost use Rattle.residues.specs.Alphabets.{validCodes};
-ghost use Rattle.packets.specs.Packing.{sixes, plain, isTwoBit, sizeOf, twoBitPart, fiveBitPart, endBit, packetOf};
+ghost use Rattle.packets.specs.Packing.{sixes, fourFrom, plain, isTwoBit, sizeOf, twoBitPart, fiveBitPart, endBit, packetOf};
 
 // The larger of two codes.
 fn larger(a: u8, b: u8) -> u8
@@ -49,20 +49,45 @@ pub fn sixes_of(left: usize) -> usize
     (left - 1) / 6 + 1
 }
 
-// Whether fifteen codes below 4 come next.
+// A code as a wider number.
+fn wide(c: u8) -> u64
+    ensures value { λ r. ⌜ r ≡ c ⌝ }
+    ensures small { λ r. ⌜ r < 256 ⌝ }
+{
+    c as u64
+}
+
+// Four codes as the bytes of a number, the first in the lowest.
+fn four_at(next: &[u8], at: usize) -> u64
+    requires { ⌜ at + 4 ≤ length (now next) ⌝ }
+    ensures value { λ r. ⌜ r ≡ fourFrom (now (next .entry)) at ⌝ }
+    ensures small { λ r. ⌜ r < 2 ^ 32 ⌝ }
+{
+    wide(next[at])
+        + wide(next[at + 1]) * 256
+        + wide(next[at + 2]) * 65536
+        + wide(next[at + 3]) * 16777216
+}
+
+// Four codes below 4, each in its byte, as one number of four digits: the product moves each to its digit.
+fn four_bases(codes: u64) -> u64
+    requires { ⌜ codes < 2 ^ 32 ⌝ }
+    ensures value { λ r. ⌜ r ≡ codes * 1074791425 / 16777216 % 256 ⌝ }
+    ensures small { λ r. ⌜ r < 256 ⌝ }
+{
+    codes * 1074791425 / 16777216 % 256
+}
+
+// Whether fifteen codes below 4 come next: no byte of four numbers of four codes, of which two share one, has a bit above its lowest two.
 fn plain_next(next: &[u8]) -> bool
     ensures { λ r. ⌜ r ≡ plain 15 (now (next .entry)) ⌝ }
 {
     if next.len() < 15 {
         return false;
     }
-    let mut most: u8 = 0;
-    let mut j: usize = 0;
-    while j < 15 {
-        most = larger(most, next[j]);
-        j += 1;
-    }
-    most < 4
+    let first = four_at(next, 0) & 4244438268 | four_at(next, 4) & 4244438268;
+    let last = four_at(next, 8) & 4244438268 | four_at(next, 11) & 4244438268;
+    first | last == 0
 }
 
 // Whether the next packet holds 2-bit codes.
@@ -75,27 +100,16 @@ fn is_two_bit(alphabet: u32, next: &[u8]) -> bool
     plain_next(next)
 }
 
-// A code as a wider number.
-fn wide(c: u8) -> u64
-    ensures value { λ r. ⌜ r ≡ c ⌝ }
-    ensures small { λ r. ⌜ r < 256 ⌝ }
-{
-    c as u64
-}
-
 // The fifteen 2-bit codes of the next packet.
 fn two_bit(next: &[u8]) -> u64
     requires { ⌜ plain 15 (now next) ≡ true ⌝ }
     ensures value { λ r. ⌜ r ≡ twoBitPart (now (next .entry)) ⌝ }
     ensures small { λ r. ⌜ r < 2 ^ 30 ⌝ }
 {
-    let mut sum: u64 = 0;
-    let mut j: usize = 0;
-    while j < 15 {
-        sum = sum * 4 + wide(next[j]);
-        j += 1;
-    }
-    sum
+    four_bases(four_at(next, 0)) * 4194304
+        + four_bases(four_at(next, 4)) * 16384
+        + four_bases(four_at(next, 8)) * 64
+        + four_bases(four_at(next, 11)) % 64
 }
 
 // The code at a place; 31 past the end.

@@ -6,9 +6,9 @@ pub use encoding::sixes_of;
 pub use encoding::valid_codes;
 ghost use mathlib.Core.Path.{_≡_};
 ghost use Prim.Native.Nat.{_+_, _≤_, _<_};
-ghost use lib.Dec.{leb, ltb};
+ghost use lib.Dec.{leb, ltb, eqb};
 ghost use lib.ListN.{length, take};
-ghost use Rattle.laws.specs.Digits.{digits, allBelow};
+ghost use Rattle.laws.specs.Digits.{digits};
 ghost use Rattle.laws.specs.Writing.{writtenAt};
 ghost use Rattle.fields.specs.Written.{littleBytes};
 ghost use Rattle.packets.specs.Positions.{byteOf};
@@ -59,20 +59,6 @@ pub fn code_count(packet: u32) -> usize
         return 6;
     }
     15
-}
-
-// Whether all six 5-bit codes are below a limit.
-fn codes_below(packet: u32, limit: u32) -> bool
-    ensures { λ r. ⌜ r ≡ allBelow limit (digits 5 6 packet) ⌝ }
-{
-    let mut n: u32 = 6;
-    while n > 0 {
-        n -= 1;
-        if (packet >> (5 * n)) % 32 >= limit {
-            return false;
-        }
-    }
-    true
 }
 
 // Whether the last 5-bit codes are all 31.
@@ -134,17 +120,37 @@ pub fn residue_count(packet: u32) -> usize
     count_before(packet)
 }
 
+// 0 where a packet may stand in an amino run before its last packet: bits 31 and 30 are 01, and no code has all of its bits 4, 3 and 2.
+fn amino_fault(packet: u32) -> u32
+    ensures { λ r. ⌜ eqb r 0 ≡ inner 3 packet ⌝ }
+{
+    let high = (packet & 138547332) & ((packet / 2 & 138547332) & (packet / 4 & 138547332));
+    high | (packet / 1073741824 ^ 1)
+}
+
+// 0 where a packet may stand in a nucleic run before its last packet: bit 31 is clear, and no 5-bit code has its bit 4.
+fn nucleic_fault(packet: u32) -> u32
+    ensures { λ r. ⌜ eqb r 0 ≡ inner 1 packet ⌝ }
+{
+    let five = packet / 1073741824 % 2;
+    (packet & 554189328) * five | packet / 2147483648
+}
+
+// 0 where a packet may stand in a run before its last packet. No test but the alphabet's: a loop over packets has none.
+pub fn inner_fault(alphabet: u32, packet: u32) -> u32
+    ensures { λ r. ⌜ eqb r 0 ≡ inner alphabet packet ⌝ }
+{
+    if alphabet == 3 {
+        return amino_fault(packet);
+    }
+    nucleic_fault(packet)
+}
+
 // Whether a packet may stand in a run before its last packet.
 pub fn is_inner(alphabet: u32, packet: u32) -> bool
     ensures { λ r. ⌜ r ≡ inner alphabet packet ⌝ }
 {
-    if packet / 2147483648 % 2 == 1 {
-        return false;
-    }
-    if packet / 1073741824 % 2 == 1 {
-        return codes_below(packet, residues::code_limit(alphabet) as u32);
-    }
-    alphabet != 3
+    inner_fault(alphabet, packet) == 0
 }
 
 // Whether a packet may be a run's last.

@@ -1,166 +1,123 @@
--- `byte_runs::read_run`: each packet before the last may stand there, and its codes are counted; the last one decides. Assumes nothing.
+-- `byte_runs::read_run`: the packets before the last at once; the last one decides. Assumes nothing.
 use mathlib.Core.Path.{_≡_, sym, _∙_}
-use Prim.Native.Nat.{_≤_, _-_, _+_, _/_}
+use mathlib.Core.Bool.{true}
+use Prim.Native.Nat.{_-_, _/_}
 use native.Mathlib.Omega.{arith}
-use borrow.Author.Tests.{not-true, not-false}
+use borrow.Author.Tests.{eq-eqb, ne-eqb}
 use lib.ListN.{length}
 use denote.Ref.{now}
 use Rattle.packets.specs.Bytes.{packetsOf}
 use Rattle.packets.proofs.Bytes.{length-packets}
 use Rattle.packets.proofs.Lengths.{unpacked-most}
-use Rattle.packets.proofs.Reading.{ReadTo, read-none, read-most, read-inner, read-broken, read-ended, read-total}
+use Rattle.packets.proofs.Reading.{ReadTo, Stands, Counted, read-all, stands-not, read-ended, read-total}
 use Rattle.packets.proofs.Shapes.{none-not}
 use Rattle.byte_runs.specs.Bytes.{runLength}
 use borrow.Author.Needs.{needs}
 use Rattle.byte_runs.proofs.read_run.Statement.{statement}
 use Rattle.byte_runs.proofs.read_run.Tie as tie
 
-abbrev Inv-loop : tie.InvT-loop
-Inv-loop alphabet bytes count last total₀ i₀ total i = (i ≤ last) × (last + 1 ≡ length (packetsOf bytes)) × ReadTo alphabet (packetsOf bytes) i total
-
-abbrev μ-loop : tie.MeasureT-loop
-μ-loop alphabet bytes count last total₀ i₀ total i = last - i
-
-returns : tie.Need-returns Inv-loop μ-loop
+returns : tie.Need-returns
 unfolding runLength
-returns c = let a = (c .before .before .args) in
+returns c =
+    let a = (c .before .before .args) in
     let bytes = now (a .bytes) in
-    let ps = packetsOf bytes in
     let n = length-packets bytes in
-    rw (none-not (a .alphabet) ps (omega arith))
+    rw (none-not (a .alphabet) (packetsOf bytes) (omega arith))
 
-sub-last : tie.Need-sub-last Inv-loop μ-loop
+sub-last : tie.Need-sub-last
 sub-last c = search needs
 
-loop-holds : tie.Need-loop-holds Inv-loop μ-loop
-loop-holds c = let a = (c .before .before .args) in
-    let bytes = now (a .bytes) in
-    let ps = packetsOf bytes in
-    let n = length-packets bytes in
-    (omega arith, omega arith, read-none (a .alphabet) ps)
+inner-faults-requires : tie.Need-inner-faults-requires
+inner-faults-requires c κs = search needs
 
-packet-at-requires : tie.Need-packet-at-requires Inv-loop μ-loop
-packet-at-requires c κs = let a = (c .before .before .before .before .args) in
-    let bytes = now (a .bytes) in
-    let ps = packetsOf bytes in
-    let n = length-packets bytes in
-    omega arith
-
-is-inner-requires : tie.Need-is-inner-requires Inv-loop μ-loop
-is-inner-requires c κs = search needs
-
-returns-2 : tie.Need-returns-2 Inv-loop μ-loop
+returns-2 : tie.Need-returns-2
 unfolding runLength
-returns-2 c = let a = (c .before .before .before .before .before .before .before .args) in
+returns-2 c =
+    let a = (c .before .before .before .before .args) in
     let bytes = now (a .bytes) in
-    let ps = packetsOf bytes in
     let n = length-packets bytes in
-    let l = (c .before .before .before .before .loop) in
-    rw (read-broken (a .alphabet) ps (l .i) ((c .before .before .packet-at) .result) ((c .before .before .packet-at) .ensures) ((c .before .is-inner) .result) (omega arith) ((c .before .is-inner) .ensures) (not-true _ ((c .if2) .taken)))
+    let f = (c .before .inner-faults) in
+    rw (stands-not (a .alphabet) (packetsOf bytes) (length bytes / 4 - 1) (omega arith) (sym (f .ensures) ∙ ne-eqb (f .result) 0 ((c .if2) .taken)))
 
-code-count-requires : tie.Need-code-count-requires Inv-loop μ-loop
-code-count-requires c κs = search needs
+packet-at-requires : tie.Need-packet-at-requires
+packet-at-requires c κs = search needs
 
-add-total : tie.Need-add-total Inv-loop μ-loop
-add-total c = let a = (c .before .before .before .before .before .before .before .before .args) in
-    let bytes = now (a .bytes) in
-    let ps = packetsOf bytes in
-    let n = length-packets bytes in
-    let l = (c .before .before .before .before .before .loop) in
-    let r = read-inner (a .alphabet) ps (l .i) ((c .before .before .before .packet-at) .result) ((c .before .before .before .packet-at) .ensures) (l .total) ((c .code-count) .result) ((c .before .before .is-inner) .result) (omega arith) ((c .before .before .is-inner) .ensures) (not-false _ ((c .before .if2) .left)) ((c .code-count) .ensures) (l .inv .2) in
-    omega (arith, read-most (a .alphabet) ps (l .i + 1) (l .total + (c .code-count) .result) r)
-
-add-i : tie.Need-add-i Inv-loop μ-loop
-add-i c = search needs
-
-loop-less : tie.Need-loop-less Inv-loop μ-loop
-loop-less c = search needs
-
-loop-again : tie.Need-loop-again Inv-loop μ-loop
-loop-again c = let a = (c .before .before .before .before .before .before .before .before .args) in
-    let bytes = now (a .bytes) in
-    let ps = packetsOf bytes in
-    let n = length-packets bytes in
-    let l = (c .before .before .before .before .before .loop) in
-    let r = read-inner (a .alphabet) ps (l .i) ((c .before .before .before .packet-at) .result) ((c .before .before .before .packet-at) .ensures) (l .total) ((c .code-count) .result) ((c .before .before .is-inner) .result) (omega arith) ((c .before .before .is-inner) .ensures) (not-false _ ((c .before .if2) .left)) ((c .code-count) .ensures) (l .inv .2) in
-    (omega arith, l .inv .1, r)
-
-packet-at-requires-2 : tie.Need-packet-at-requires-2 Inv-loop μ-loop
-packet-at-requires-2 c κs = omega arith
-
-state-after-requires : tie.Need-state-after-requires Inv-loop μ-loop
+state-after-requires : tie.Need-state-after-requires
 state-after-requires c κs = search needs
 
-step-requires : tie.Need-step-requires Inv-loop μ-loop
+step-requires : tie.Need-step-requires
 step-requires c κs = search needs
 
-is-ended-requires : tie.Need-is-ended-requires Inv-loop μ-loop
+is-ended-requires : tie.Need-is-ended-requires
 is-ended-requires c κs = search needs
 
-residue-count-requires : tie.Need-residue-count-requires Inv-loop μ-loop
+inner-codes-requires : tie.Need-inner-codes-requires
+inner-codes-requires c κs = let f = (c .before .before .before .before .before .before .inner-faults) in ((omega arith, omega (arith, (c .before .before .before .before .before .before .before .before .before .pre))), sym (f .ensures) ∙ eq-eqb (f .result) 0 ((c .before .before .before .before .before .if2) .left))
+
+residue-count-requires : tie.Need-residue-count-requires
 residue-count-requires c κs = search needs
 
-add-t22 : tie.Need-add-t22 Inv-loop μ-loop
-add-t22 c = let a = (c .before .before .before .before .before .before .before .before .before .before .args) in
+add-t16 : tie.Need-add-t16
+add-t16 c =
+    let a = (c .before .before .before .before .before .before .before .before .before .before .before .args) in
     let bytes = now (a .bytes) in
     let ps = packetsOf bytes in
     let n = length-packets bytes in
-    let l = (c .before .before .before .before .before .before .before .loop) in
     let last = length bytes / 4 - 1 in
-    let i : l .i ≡ last = omega arith in
-    let r : ReadTo (a .alphabet) ps last (l .total) = rw (← i) (l .inv .2) in
-    let t = read-total (a .alphabet) ps last ((c .before .before .before .before .before .packet-at2) .result) ((c .before .before .before .before .before .packet-at2) .ensures) (l .total) ((c .residue-count) .result) (omega arith) r ((c .residue-count) .ensures) in
-    omega (arith, unpacked-most ps)
+    let f = (c .before .before .before .before .before .before .before .before .inner-faults) in
+    let st : Stands (a .alphabet) ps last ≡ true = sym (f .ensures) ∙ eq-eqb (f .result) 0 ((c .before .before .before .before .before .before .before .if2) .left) in
+    let r = read-all (a .alphabet) ps last (omega arith) st in
+    let p = (c .before .before .before .before .before .before .packet-at) in
+    let r' : ReadTo (a .alphabet) ps last ((c .before .inner-codes) .result) = rw ((c .before .inner-codes) .ensures) r in
+    let t = read-total (a .alphabet) ps last (p .result) (p .ensures) ((c .before .inner-codes) .result) ((c .residue-count) .result) (omega arith) r' ((c .residue-count) .ensures) in
+    omega (arith, unpacked-most ps, (c .before .before .before .before .before .before .before .before .before .before .before .pre))
 
-returns-3 : tie.Need-returns-3 Inv-loop μ-loop
+returns-3 : tie.Need-returns-3
 unfolding runLength
-returns-3 c = let a = (c .before .before .before .before .before .before .before .before .before .before .args) in
+returns-3 c =
+    let a = (c .before .before .before .before .before .before .before .before .before .before .before .args) in
     let bytes = now (a .bytes) in
     let ps = packetsOf bytes in
     let n = length-packets bytes in
-    let l = (c .before .before .before .before .before .before .before .loop) in
     let last = length bytes / 4 - 1 in
-    let i : l .i ≡ last = omega arith in
-    let r : ReadTo (a .alphabet) ps last (l .total) = rw (← i) (l .inv .2) in
-    let w = read-ended (a .alphabet) ps last ((c .before .before .before .before .before .packet-at2) .result) ((c .before .before .before .before .before .packet-at2) .ensures) (l .total) ((c .before .before .before .before .state-after) .result) ((c .before .before .before .step) .result) ((c .before .before .is-ended) .result) (omega arith) r ((c .before .before .before .before .state-after) .ensures) ((c .before .before .before .step) .ensures) ((c .before .before .is-ended) .ensures) in
-    let t = read-total (a .alphabet) ps last ((c .before .before .before .before .before .packet-at2) .result) ((c .before .before .before .before .before .packet-at2) .ensures) (l .total) ((c .residue-count) .result) (omega arith) r ((c .residue-count) .ensures) in
-    rw (sym w ∙ (c .before .if3) .taken, t)
+    let f = (c .before .before .before .before .before .before .before .before .inner-faults) in
+    let st : Stands (a .alphabet) ps last ≡ true = sym (f .ensures) ∙ eq-eqb (f .result) 0 ((c .before .before .before .before .before .before .before .if2) .left) in
+    let r = read-all (a .alphabet) ps last (omega arith) st in
+    let p = (c .before .before .before .before .before .before .packet-at) in
+    let r' : ReadTo (a .alphabet) ps last ((c .before .inner-codes) .result) = rw ((c .before .inner-codes) .ensures) r in
+    let w = read-ended (a .alphabet) ps last (p .result) (p .ensures) (Counted (a .alphabet) ps last) ((c .before .before .before .before .before .state-after) .result) ((c .before .before .before .before .step) .result) ((c .before .before .before .is-ended) .result) (omega arith) r ((c .before .before .before .before .before .state-after) .ensures) ((c .before .before .before .before .step) .ensures) ((c .before .before .before .is-ended) .ensures) in
+    let t = read-total (a .alphabet) ps last (p .result) (p .ensures) ((c .before .inner-codes) .result) ((c .residue-count) .result) (omega arith) r' ((c .residue-count) .ensures) in
+    rw (sym w ∙ (c .before .before .if3) .taken, t)
 
-returns-4 : tie.Need-returns-4 Inv-loop μ-loop
+returns-4 : tie.Need-returns-4
 unfolding runLength
-returns-4 c = let a = (c .before .before .before .before .before .before .before .before .before .args) in
+returns-4 c =
+    let a = (c .before .before .before .before .before .before .before .before .before .args) in
     let bytes = now (a .bytes) in
     let ps = packetsOf bytes in
     let n = length-packets bytes in
-    let l = (c .before .before .before .before .before .before .loop) in
     let last = length bytes / 4 - 1 in
-    let i : l .i ≡ last = omega arith in
-    let r : ReadTo (a .alphabet) ps last (l .total) = rw (← i) (l .inv .2) in
-    let w = read-ended (a .alphabet) ps last ((c .before .before .before .before .packet-at2) .result) ((c .before .before .before .before .packet-at2) .ensures) (l .total) ((c .before .before .before .state-after) .result) ((c .before .before .step) .result) ((c .before .is-ended) .result) (omega arith) r ((c .before .before .before .state-after) .ensures) ((c .before .before .step) .ensures) ((c .before .is-ended) .ensures) in
+    let f = (c .before .before .before .before .before .before .inner-faults) in
+    let st : Stands (a .alphabet) ps last ≡ true = sym (f .ensures) ∙ eq-eqb (f .result) 0 ((c .before .before .before .before .before .if2) .left) in
+    let r = read-all (a .alphabet) ps last (omega arith) st in
+    let p = (c .before .before .before .before .packet-at) in
+    let w = read-ended (a .alphabet) ps last (p .result) (p .ensures) (Counted (a .alphabet) ps last) ((c .before .before .before .state-after) .result) ((c .before .before .step) .result) ((c .before .is-ended) .result) (omega arith) r ((c .before .before .before .state-after) .ensures) ((c .before .before .step) .ensures) ((c .before .is-ended) .ensures) in
     rw (sym w ∙ (c .if3) .left)
 
 pub read-run-spec : {M : Type 1} → statement M
 read-run-spec =
     tie.close
     (tie.spec
-    Inv-loop
-    μ-loop
     returns
     sub-last
-    loop-holds
-    packet-at-requires
-    is-inner-requires
+    inner-faults-requires
     returns-2
-    code-count-requires
-    add-total
-    add-i
-    loop-less
-    loop-again
-    packet-at-requires-2
+    packet-at-requires
     state-after-requires
     step-requires
     is-ended-requires
+    inner-codes-requires
     residue-count-requires
-    add-t22
+    add-t16
     returns-3
     returns-4)

@@ -1,60 +1,45 @@
--- `packets::encoding::plain_next`: the largest of the codes read so far is below 4 exactly when all of them are. Assumes nothing.
-use mathlib.Core.Path.{_≡_, sym, ap, _∙_}
-use Prim.Native.Nat.{ℕ, _≤_, _-_}
+-- `packets::encoding::plain_next`: a mask over four numbers of four codes. Assumes nothing.
+use mathlib.Core.Path.{sym}
 use native.Mathlib.Omega.{arith}
-use lib.Dec.{ltb}
 use denote.Ref.{now}
-use Rattle.packets.specs.Packing.{plain}
-use Rattle.packets.proofs.Packing.{plain-none, plain-short, plain-turn}
+use Rattle.packets.proofs.Packing.{plain-short}
+use Rattle.packets.proofs.Bases.{plain-fours}
 use borrow.Author.Needs.{needs}
 use Rattle.packets.proofs.encoding.plain_next.Statement.{statement}
 use Rattle.packets.proofs.encoding.plain_next.Tie as tie
 
-abbrev Inv-loop : tie.InvT-loop
-Inv-loop next most₀ j₀ most j = (j ≤ 15) × (ltb most 4 ≡ plain j next)
-
-abbrev μ-loop : tie.MeasureT-loop
-μ-loop next most₀ j₀ most j = 15 - j
-
-returns : tie.Need-returns Inv-loop μ-loop
+-- src/encoding.rt:83:9
+returns : tie.Need-returns
 returns c = sym (plain-short 15 (now ((c .before .before .args) .next)) ((c .if1) .taken))
 
-loop-holds : tie.Need-loop-holds Inv-loop μ-loop
-loop-holds c = (omega arith, sym (plain-none (now ((c .before .before .args) .next))))
+-- src/encoding.rt:85:17
+four-at-requires : tie.Need-four-at-requires
+four-at-requires c κs = search needs
 
-shared-slice-read-larger : tie.Need-shared-slice-read-larger Inv-loop μ-loop
-shared-slice-read-larger c = search needs
+-- src/encoding.rt:85:49
+four-at-requires-2 : tie.Need-four-at-requires-2
+four-at-requires-2 c κs = search needs
 
-larger-requires : tie.Need-larger-requires Inv-loop μ-loop
-larger-requires c κs = search needs
+-- src/encoding.rt:86:16
+four-at-requires-3 : tie.Need-four-at-requires-3
+four-at-requires-3 c κs = search needs
 
-add-j : tie.Need-add-j Inv-loop μ-loop
-add-j c = search needs
+-- src/encoding.rt:86:48
+four-at-requires-4 : tie.Need-four-at-requires-4
+four-at-requires-4 c κs = search needs
 
-loop-less : tie.Need-loop-less Inv-loop μ-loop
-loop-less c = search needs
-
-loop-again : tie.Need-loop-again Inv-loop μ-loop
-loop-again c = let l = (c .before .before .before .loop) in
-    let cs = now ((c .before .before .before .before .before .before .args) .next) in
-    (omega arith, ap (λ (x : ℕ). ltb x 4) ((c .larger) .ensures) ∙ plain-turn (l .most) (l .j) cs (omega arith) (l .inv .1))
-
-returns-2 : tie.Need-returns-2 Inv-loop μ-loop
-returns-2 c = let l = (c .before .loop) in
-    let e : l .j ≡ 15 = omega arith in
-    l .inv .1 ∙ ap (λ (n : ℕ). plain n (now ((c .before .before .before .before .args) .next))) e
+-- src/encoding.rt:79:1
+returns-2 : tie.Need-returns-2
+returns-2 c =
+    plain-fours (now ((c .before .before .before .before .before .before .args) .next)) (λ k. omega (arith, (c .before .before .before .before .before .shared-slice-known) .given k)) ((c .before .before .before .four-at) .result) ((c .before .before .four-at2) .result) ((c .before .four-at3) .result) ((c .four-at4) .result) ((c .before .before .before .before .if1) .left) ((c .before .before .before .four-at) .ensures .0) ((c .before .before .four-at2) .ensures .0) ((c .before .four-at3) .ensures .0) ((c .four-at4) .ensures .0)
 
 pub plain-next-spec : {M : Type 1} → statement M
 plain-next-spec =
     tie.close
     (tie.spec
-    Inv-loop
-    μ-loop
     returns
-    loop-holds
-    shared-slice-read-larger
-    larger-requires
-    add-j
-    loop-less
-    loop-again
+    four-at-requires
+    four-at-requires-2
+    four-at-requires-3
+    four-at-requires-4
     returns-2)

@@ -1,72 +1,94 @@
--- `packets::encoding::two_bit`: the codes added up so far. Assumes nothing.
-use mathlib.Core.Path.{_≡_, sym, _∙_}
-use Prim.Native.Nat.{_≤_, _-_, _+_, _*_}
+-- `packets::encoding::two_bit`: four numbers of four codes, of which two share one. Assumes nothing.
+use mathlib.Core.Path.{ap, _∙_}
+use Prim.Native.Nat.{ℕ, _*_, _/_, _%_}
 use native.Mathlib.Omega.{arith}
-use lib.ListN.{length, take, getD}
 use denote.Ref.{now}
-use Rattle.laws.specs.Digits.{value}
-use Rattle.packets.proofs.Packing.{plain-long, two-below}
-use Rattle.packets.proofs.Filled.{two-more, two-none, two-so-far}
+use Rattle.packets.proofs.Packing.{plain-long}
+use Rattle.packets.proofs.Bases.{bases-sum}
 use borrow.Author.Needs.{needs}
 use Rattle.packets.proofs.encoding.two_bit.Statement.{statement}
 use Rattle.packets.proofs.encoding.two_bit.Tie as tie
 
-abbrev Inv-loop : tie.InvT-loop
-Inv-loop next sum₀ j₀ sum j = (j ≤ 15) × (15 ≤ length next) × (sum ≡ value 2 0 (take j next))
+-- src/encoding.rt:106:16
+four-at-requires : tie.Need-four-at-requires
+four-at-requires c κs = omega (arith, plain-long 15 (now ((c .before .args) .next)) ((c .before .pre)))
 
-abbrev μ-loop : tie.MeasureT-loop
-μ-loop next sum₀ j₀ sum j = 15 - j
+-- src/encoding.rt:106:5
+four-bases-requires : tie.Need-four-bases-requires
+four-bases-requires c κs = search needs
 
-loop-holds : tie.Need-loop-holds Inv-loop μ-loop
-loop-holds c = (omega arith, omega (arith, plain-long 15 (now ((c .before .args) .next)) (c .before .pre)), sym (two-none (now ((c .before .args) .next))))
+-- src/encoding.rt:106:5
+mul-result : tie.Need-mul-result
+mul-result c = search needs
 
-mul-sum : tie.Need-mul-sum Inv-loop μ-loop
-mul-sum c = let l = (c .before .loop) in
-    let s = two-so-far (l .j) (now ((c .before .before .before .args) .next)) (c .before .before .before .pre) (l .inv .0) in
-    omega (arith, l .inv .2)
+-- src/encoding.rt:107:22
+four-at-requires-2 : tie.Need-four-at-requires-2
+four-at-requires-2 c κs = omega (arith, plain-long 15 (now ((c .before .before .before .args) .next)) ((c .before .before .before .pre)))
 
-shared-slice-read-wide : tie.Need-shared-slice-read-wide Inv-loop μ-loop
-shared-slice-read-wide c = search needs
+-- src/encoding.rt:107:11
+four-bases-requires-2 : tie.Need-four-bases-requires-2
+four-bases-requires-2 c κs = search needs
 
-wide-requires : tie.Need-wide-requires Inv-loop μ-loop
-wide-requires c κs = search needs
+-- src/encoding.rt:107:11
+mul-result-2 : tie.Need-mul-result-2
+mul-result-2 c = search needs
 
-add-sum : tie.Need-add-sum Inv-loop μ-loop
-add-sum c = let l = (c .before .before .before .loop) in
-    let s = two-so-far (l .j) (now ((c .before .before .before .before .before .args) .next)) (c .before .before .before .before .before .pre) (l .inv .0) in
-    omega (arith, l .inv .2, (c .wide) .ensures .1)
+-- src/encoding.rt:106:5
+add-result : tie.Need-add-result
+add-result c = search needs
 
-add-j : tie.Need-add-j Inv-loop μ-loop
-add-j c = search needs
+-- src/encoding.rt:108:22
+four-at-requires-3 : tie.Need-four-at-requires-3
+four-at-requires-3 c κs = omega (arith, plain-long 15 (now ((c .before .before .before .before .before .args) .next)) ((c .before .before .before .before .before .pre)))
 
-loop-less : tie.Need-loop-less Inv-loop μ-loop
-loop-less c = search needs
+-- src/encoding.rt:108:11
+four-bases-requires-3 : tie.Need-four-bases-requires-3
+four-bases-requires-3 c κs = search needs
 
-loop-again : tie.Need-loop-again Inv-loop μ-loop
-loop-again c = let l = (c .before .before .before .loop) in
-    let cs = now ((c .before .before .before .before .before .args) .next) in
-    let e : l .sum * 4 + (c .wide) .result ≡ value 2 0 (take (l .j) cs) * 4 + getD cs (l .j) 0 = rw (← l .inv .2, ← (c .wide) .ensures .0) in
-    (omega arith, l .inv .1, e ∙ sym (two-more (l .j) cs (omega arith)))
+-- src/encoding.rt:108:11
+mul-result-3 : tie.Need-mul-result-3
+mul-result-3 c = search needs
 
-returns : tie.Need-returns Inv-loop μ-loop
-returns c = let l = (c .before .loop) in
-    let cs = now ((c .before .before .before .args) .next) in
-    let j : l .j ≡ 15 = omega arith in
-    let e : l .sum ≡ value 2 0 (take 15 cs) = l .inv .2 ∙ rw j in
-    (e, rw e (two-below cs (c .before .before .before .pre)))
+-- src/encoding.rt:106:5
+add-result-2 : tie.Need-add-result-2
+add-result-2 c = search needs
+
+-- src/encoding.rt:109:22
+four-at-requires-4 : tie.Need-four-at-requires-4
+four-at-requires-4 c κs = omega (arith, plain-long 15 (now ((c .before .before .before .before .before .before .before .args) .next)) ((c .before .before .before .before .before .before .before .pre)))
+
+-- src/encoding.rt:109:11
+four-bases-requires-4 : tie.Need-four-bases-requires-4
+four-bases-requires-4 c κs = search needs
+
+-- src/encoding.rt:106:5
+add-result-3 : tie.Need-add-result-3
+add-result-3 c = search needs
+
+-- src/encoding.rt:101:1
+returns : tie.Need-returns
+returns c =
+    let moved : ℕ → ℕ = λ n. n * 1074791425 / 16777216 % 256 in (
+      bases-sum (now ((c .before .before .before .before .before .before .before .before .before .args) .next)) ((c .before .before .before .before .before .before .before .before .before .pre)) ((c .before .before .before .before .before .before .four-bases) .result) ((c .before .before .before .before .four-bases2) .result) ((c .before .before .four-bases3) .result) ((c .four-bases4) .result) ((c .before .before .before .before .before .before .four-bases) .ensures .0 ∙ ap moved ((c .before .before .before .before .before .before .before .four-at) .ensures .0)) ((c .before .before .before .before .four-bases2) .ensures .0 ∙ ap moved ((c .before .before .before .before .before .four-at2) .ensures .0)) ((c .before .before .four-bases3) .ensures .0 ∙ ap moved ((c .before .before .before .four-at3) .ensures .0)) ((c .four-bases4) .ensures .0 ∙ ap moved ((c .before .four-at4) .ensures .0)),
+      omega (arith, (c .before .before .before .before .before .before .four-bases) .ensures .1, (c .before .before .before .before .four-bases2) .ensures .1, (c .before .before .four-bases3) .ensures .1, (c .four-bases4) .ensures .1),
+    )
 
 pub two-bit-spec : {M : Type 1} → statement M
 two-bit-spec =
     tie.close
     (tie.spec
-    Inv-loop
-    μ-loop
-    loop-holds
-    mul-sum
-    shared-slice-read-wide
-    wide-requires
-    add-sum
-    add-j
-    loop-less
-    loop-again
+    four-at-requires
+    four-bases-requires
+    mul-result
+    four-at-requires-2
+    four-bases-requires-2
+    mul-result-2
+    add-result
+    four-at-requires-3
+    four-bases-requires-3
+    mul-result-3
+    add-result-2
+    four-at-requires-4
+    four-bases-requires-4
+    add-result-3
     returns)
