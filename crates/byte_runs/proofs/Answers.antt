@@ -1,25 +1,23 @@
 -- The answers of packing into and unpacking from bytes, refusal by refusal. Assumes nothing.
-use mathlib.Core.Path.{_≡_, sym, _∙_}
-use mathlib.Core.Bool.{Bool, true, false, cond}
+use mathlib.Core.Path.{_≡_}
 use mathlib.Core.List.{List}
 use Prim.Native.Nat.{ℕ, _%_, _≤_, _<_}
 use native.Mathlib.Omega.{arith}
 use lib.ListN.{length}
 use borrow.Author.Tests.{le-leb, lt-leb, leb-true, eq-eqb, ne-eqb, eqb-true}
 use Rattle.laws.specs.Writing.{writtenAt}
-use Rattle.laws.proofs.Tests.{bool-cases}
 use Rattle.answers.specs.declared.Refusal.{Refusal}
 use Rattle.answers.specs.declared.Refusal.the-variants.{TooLarge, TooShort}
 use Rattle.packets.specs.Positions.{byteOf}
 use Rattle.packets.specs.Packing.{run}
-use Rattle.packets.specs.Runs.{wellFormed, unpacked}
+use Rattle.packets.specs.Runs.{unpacked}
+use Rattle.packets.specs.Reading.{runLength}
+use Rattle.packets.specs.declared.RunLength.the-variants.{NoRun}
 use Rattle.packets.specs.Bytes.{packetsOf, bytesOf}
 use Rattle.runs.specs.declared.PackAnswer.the-variants as Pack
 use Rattle.runs.specs.declared.UnpackAnswer.the-variants as Unpack
 use Rattle.runs.proofs.Answers.{MayUnpack, RunAnswer, may-unpack, unpacked-holds}
-use Rattle.byte_runs.specs.declared.RunLength.{RunLength}
-use Rattle.byte_runs.specs.declared.RunLength.the-variants.{Residues, NoRun}
-use Rattle.byte_runs.specs.Bytes.{packBytesAnswer, bytesAfter, runLength, unpackBytesRules, unpackBytesAnswer, codesAfterBytes}
+use Rattle.byte_runs.specs.Bytes.{packBytesAnswer, bytesAfter, runIn, unpackBytesRules, unpackBytesAnswer, codesAfterBytes}
 
 -- ---- packing: what the bytes are after
 
@@ -35,18 +33,14 @@ module _ (a : ℕ) (codes bytes : List ℕ) (place : ℕ) where
 
 -- ---- unpacking
 
--- what reading a run says of it
-module _ (a : ℕ) (ps : List ℕ) (x : RunLength) (e : x ≡ runLength a ps) where
-  found : (b : Bool) → wellFormed a ps ≡ b → x ≡ cond b (Residues (length (unpacked ps))) NoRun
-  unfolding runLength
-  found b w = e ∙ rw w
+-- what reading bytes finds is what reading their packets finds
+pub read-fits : (a : ℕ) (bytes : List ℕ) → length bytes ≤ 2147483647 → runIn a bytes ≡ runLength a (packetsOf bytes)
+unfolding runIn
+read-fits a bytes h = rw (le-leb (length bytes) 2147483647 h)
 
-  pub read-formed : (l : ℕ) → x ≡ Residues l → (wellFormed a ps ≡ true) × (l ≡ length (unpacked ps))
-  read-formed l f =
-      bool-cases (wellFormed a ps) (λ w. let g = sym f ∙ found true w in (w, cc)) (λ w. let g = sym f ∙ found false w in absurd (let z : _≡_ {A = ℕ} 0 1 = cc in omega arith))
-
-  pub read-not : x ≡ NoRun → wellFormed a ps ≡ false
-  read-not f = bool-cases (wellFormed a ps) (λ w. let g = sym f ∙ found true w in absurd (let z : _≡_ {A = ℕ} 0 1 = cc in omega arith)) (λ w. w)
+pub read-large : (a : ℕ) (bytes : List ℕ) → 2147483647 < length bytes → NoRun ≡ runIn a bytes
+unfolding runIn
+read-large a bytes h = rw (lt-leb (length bytes) 2147483647 h)
 
 module _ (a : ℕ) (bytes : List ℕ) (room : ℕ) where
   pub unpack-bytes-large : 2147483647 < length bytes → unpackBytesAnswer a bytes room ≡ Unpack.Refused TooLarge

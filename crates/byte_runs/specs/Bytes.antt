@@ -12,13 +12,14 @@ use Rattle.answers.specs.declared.Refusal.{Refusal}
 use Rattle.answers.specs.declared.Refusal.the-variants.{TooLarge, TooShort}
 use Rattle.packets.specs.Positions.{byteOf}
 use Rattle.packets.specs.Packing.{run}
-use Rattle.packets.specs.Runs.{wellFormed, unpacked}
+use Rattle.packets.specs.Runs.{unpacked}
+use Rattle.packets.specs.Reading.{runLength}
+use Rattle.packets.specs.declared.RunLength.{RunLength}
+use Rattle.packets.specs.declared.RunLength.the-variants.{NoRun}
 use Rattle.packets.specs.Bytes.{packetsOf, bytesOf}
 use Rattle.runs.specs.Answers.{packAnswer, ifPacked, runRules, unpackedBy, ifUnpacked}
 use Rattle.runs.specs.declared.PackAnswer.{PackAnswer}
 use Rattle.runs.specs.declared.UnpackAnswer.{UnpackAnswer}
-use Rattle.byte_runs.specs.declared.RunLength.{RunLength}
-use Rattle.byte_runs.specs.declared.RunLength.the-variants.{Residues, NoRun}
 
 -- Packing into bytes answers as packing into the packets that they stand for: bytes past the last whole packet are unused.
 abbrev pub packBytesAnswer : ℕ → List ℕ → List ℕ → ℕ → PackAnswer
@@ -29,9 +30,9 @@ unfoldable pub bytesAfter : ℕ → List ℕ → List ℕ → ℕ → List ℕ
 bytesAfter alphabet codes bytes place =
     ifPacked (packBytesAnswer alphabet codes bytes place) (writtenAt (byteOf 0 place) (bytesOf (run alphabet codes)) bytes) bytes
 
--- What reading a run finds: the number of its residues, or that it is not well formed.
-unfoldable pub runLength : ℕ → List ℕ → RunLength
-runLength alphabet packets = cond (wellFormed alphabet packets) (Residues (length (unpacked packets))) NoRun
+-- What reading bytes as a run finds. Bytes past the last whole packet are unused, and more bytes than a call takes are no run.
+unfoldable pub runIn : ℕ → List ℕ → RunLength
+runIn alphabet bytes = cond (bytesFit bytes) (runLength alphabet (packetsOf bytes)) NoRun
 
 -- The bytes are whole packets.
 abbrev pub wholePackets : List ℕ → Bool

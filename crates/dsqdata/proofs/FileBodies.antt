@@ -6,14 +6,18 @@ use mathlib.Core.List.{List, _++_}
 use Prim.Native.Nat.{ℕ, zero, suc, _+_, _*_, _-_, _/_, _^_, _≤_, _<_}
 use native.Mathlib.Omega.{arith}
 use native.Mathlib.Nat.{min-eq-left}
-use lib.ListN.{length, drop, length-drop}
-use lib.Seq.{ext-getD, getD-drop, drop-at}
+use lib.ListN.{length, take, drop, length-take, length-drop}
+use lib.Seq.{slice, ext-getD, getD-drop, drop-at, take-add, length-take-le}
 use Rattle.laws.specs.Digits.{allBelow}
 use Rattle.fields.specs.Number.{Order, number, bytesAt, unsignedAt}
 use Rattle.fields.proofs.Laws.{unsigned-bytes}
 use Rattle.packets.specs.Bytes.{packetsOf, bytesOf}
+use Rattle.packets.specs.Reading.{runLength}
+use Rattle.packets.specs.declared.RunLength.{RunLength}
 use Rattle.packets.specs.Positions.{byteOf}
-use Rattle.packets.proofs.Bytes.{length-packets, packets-at, packets-bytes}
+use Rattle.packets.proofs.Bytes.{length-packets, packets-at, packets-part, packets-bytes}
+use Rattle.byte_runs.specs.Bytes.{runIn}
+use Rattle.byte_runs.proofs.Answers.{read-fits}
 use Rattle.metadata.specs.Fields.{setOrder, setField}
 use Rattle.dsqdata.specs.Header.{packetsIn, packetAt, bodyOf}
 use Rattle.dsqdata.proofs.Bodies.{body-length, body-at}
@@ -45,7 +49,32 @@ body-packets s h =
     let g : k < length (drop 8 s) / 4 = omega (arith, length-drop 8 s) in
     body-at s k p ∙ (packet-is s k (byte-place k (omega arith)) ∙ sym (packets-at (drop 8 s) k g)))
 
--- .. so a header of 8 bytes and the bytes of packets have these packets as their body.
+slice-part : (from to : ℕ) (xs : List ℕ) → from ≤ to → from ≤ length xs → take (to - from) (drop from xs) ≡ slice from to xs
+slice-part from to xs h l =
+    let e : from + (to - from) ≡ to = omega arith in
+    sym (drop-at (take from xs) (take (to - from) (drop from xs)) from (length-take-le from xs l))
+    ∙ (ap (drop from) (sym (take-add from (to - from) xs)) ∙ ap (λ (n : ℕ). drop from (take n xs)) e)
+
+-- .. so a run is what the bytes of its packets stand for ..
+module _ (a : ℕ) (s : List ℕ) (from to start end : ℕ) (low : from < to) (high : to ≤ packetsIn s) (fits : length s ≤ 2147483647)
+    (begins : start ≡ byteOf 8 from) (ends : end ≡ byteOf 8 to) where
+  pub run-within : (start ≤ end) × (end ≤ length s)
+  run-within = (omega (arith, begins, ends), omega (arith, ends))
+
+  run-packets : packetsOf (take (end - start) (drop start s)) ≡ slice from to (bodyOf s)
+  run-packets =
+      let e : start ≡ 4 * from + 8 = begins ∙ byte-place from (omega arith) in
+      let f : end ≡ 4 * to + 8 = ends ∙ byte-place to (omega arith) in
+      ap packetsOf (slice-part start end s (omega arith) (omega arith))
+      ∙ rw (e, f, body-packets s fits) (packets-part 8 s from to (omega arith) (omega arith))
+
+  pub run-found : (x : RunLength) → x ≡ runIn a (take (end - start) (drop start s)) → x ≡ runLength a (slice from to (bodyOf s))
+  run-found x e =
+      let n : length (take (end - start) (drop start s)) ≤ 2147483647 =
+      omega (arith, length-take (end - start) (drop start s), length-drop start s) in
+      e ∙ (read-fits a (take (end - start) (drop start s)) n ∙ ap (runLength a) run-packets)
+
+-- .. and a header of 8 bytes and the bytes of packets have these packets as their body.
 pub body-bytes : (header packets : List ℕ) → length header ≡ 8 → allBelow (2 ^ 32) packets ≡ true → length (header ++ bytesOf packets) ≤ 2147483647
     → bodyOf (header ++ bytesOf packets) ≡ packets
 body-bytes header packets e b h =

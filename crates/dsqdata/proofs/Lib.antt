@@ -1,6 +1,7 @@
 pub mod EachRule
 pub mod Signs
 pub mod Bodies
+pub mod FileBodies
 pub mod Rising
 pub mod Texts
 pub mod Parts
@@ -8,4 +9,3 @@ pub mod Wholes
 pub mod SetRules
 pub mod Demand
 pub mod LookupRules
-pub mod FileBodies

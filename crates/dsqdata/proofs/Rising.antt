@@ -18,6 +18,8 @@ use Rattle.laws.specs.Rules.{AllHold}
 use Rattle.laws.proofs.Places.{every-at, every-all}
 use Rattle.laws.proofs.Tests.{true-T, T-true}
 use Rattle.packets.specs.Ends.{after, lastPlace}
+use Rattle.packets.specs.Reading.{runLength}
+use Rattle.packets.specs.declared.RunLength.{RunLength}
 use Rattle.packets.proofs.Ends.{Low, above, low-next, same-end, after-last, last-low}
 use Rattle.packets.proofs.Lengths.{unpacked-most}
 use Rattle.metadata.specs.Fields.{setSigned}
@@ -25,8 +27,6 @@ use Rattle.dsqdata.specs.Header.{packetsIn, bodyOf}
 use Rattle.dsqdata.specs.Ends.{packetTable, endBefore, risesAt, runAt, residuesAt}
 use Rattle.dsqdata.specs.Check.{endsRules}
 use Rattle.dsqdata.specs.Rules.{EndsRule}
-use Rattle.dsqdata.specs.declared.runs.Run.{Run}
-use Rattle.dsqdata.specs.Scans.{runRead}
 use Rattle.dsqdata.proofs.Bodies.{body-length}
 use Rattle.dsqdata.proofs.Signs.{again}
 
@@ -68,7 +68,7 @@ module _ (index : List ℕ) (table n : ℕ) (r : (k : ℕ) → k < n → endBefo
   end-low zero l = rw (end-zero index table 0 refl) (leZ-yes tt)
   end-low (suc k) l = low-next (endBefore index table k) (endBefore index table (suc k)) (end-low k (omega arith)) (r k (omega arith))
 
-  after-rises : (k : ℕ) → k < n → after (endBefore index table k) < after (endBefore index table (suc k))
+  pub after-rises : (k : ℕ) → k < n → after (endBefore index table k) < after (endBefore index table (suc k))
   after-rises k l = above (endBefore index table k) (endBefore index table (suc k)) (end-low k (omega arith)) (r k l)
 
   pub after-most : (k : ℕ) → k ≤ n → after (endBefore index table k) ≤ after (endBefore index table n)
@@ -112,9 +112,9 @@ module _ (index sequence : List ℕ) (k : ℕ) where
   unfolding runAt
   run-is from to e f = rw (e, f)
 
-  pub run-read : (a from to : ℕ) (r : Run) → from ≡ after (endBefore index packetTable k) → to ≡ after (endBefore index packetTable (suc k))
-      → r ≡ runRead a (slice from to (bodyOf sequence)) → r ≡ runRead a (runAt index sequence k)
-  run-read a from to r e f p = p ∙ ap (runRead a) (run-is from to e f)
+  pub run-read : (a from to : ℕ) (r : RunLength) → from ≡ after (endBefore index packetTable k) → to ≡ after (endBefore index packetTable (suc k))
+      → r ≡ runLength a (slice from to (bodyOf sequence)) → r ≡ runLength a (runAt index sequence k)
+  run-read a from to r e f p = p ∙ ap (runLength a) (run-is from to e f)
 
   pub residues-most : residuesAt index sequence k ≤ 15 * packetsIn sequence
   unfolding runAt

@@ -14,15 +14,17 @@ use Rattle.laws.proofs.Rules.{verdict-append, refused-any, hold-first, hold-sec
 use Rattle.laws.proofs.Passing.{passes-with}
 use Rattle.laws.proofs.Verdicts.{refused-then}
 use Rattle.answers.specs.declared.Refusal.{Refusal}
-use Rattle.answers.specs.declared.Refusal.the-variants.{BadOffsets}
+use Rattle.answers.specs.declared.Refusal.the-variants.{BadOffsets, BadRun}
 use Rattle.answers.specs.declared.Checked.{Checked}
 use Rattle.answers.specs.declared.Checked.the-variants as C
 use Rattle.answers.specs.Limits.{checkedBy}
 use Rattle.answers.proofs.Checks.{all-hold, refused-first}
 use Rattle.packets.specs.Runs.{unpacked}
+use Rattle.packets.specs.Reading.{runLength}
+use Rattle.packets.specs.declared.RunLength.{RunLength}
+use Rattle.packets.specs.declared.RunLength.the-variants.{Residues, NoRun}
+use Rattle.packets.proofs.Reading.{read-formed, read-not}
 use Rattle.dsqdata.specs.declared.SetRecord.{SetRecord}
-use Rattle.dsqdata.specs.declared.runs.Run.{Run}
-use Rattle.dsqdata.specs.declared.runs.Run.the-variants as R
 use Rattle.dsqdata.specs.declared.runs.Runs.{Runs}
 use Rattle.dsqdata.specs.declared.runs.Runs.the-variants as U
 use Rattle.dsqdata.specs.declared.records.Records.{Records}
@@ -33,7 +35,7 @@ use Rattle.dsqdata.specs.Header.{countOf, recordOf}
 use Rattle.dsqdata.specs.Ends.{endBefore, residuesAt}
 use Rattle.dsqdata.specs.Records.{nameAt, accessionAt, descriptionAt}
 use Rattle.dsqdata.specs.Check.{sizeRules, startRules, tagRules, fileRules, headerRules, countRules, bodyRules, layoutRules, endsRules, rulesTo, rulesOfRun, runRulesTo, rulesOfRecord, statedRules, totalRules, behindRuns, restRules}
-use Rattle.dsqdata.specs.Scans.{runRead, runsTo, recordsTo}
+use Rattle.dsqdata.specs.Scans.{runsTo, recordsTo}
 use Rattle.dsqdata.specs.Lookup.{partRules, startAt, lengthAt, partOf}
 
 clash : {A : Type 0} → _≡_ {A = ℕ} 0 1 → A
@@ -41,18 +43,14 @@ clash e = absurd (let z : ⊥ = omega arith in z)
 
 -- ---- the runs
 
-module _ (a : ℕ) (ps : List ℕ) (c : Run) (e : c ≡ runRead a ps) where
-  pub run-refused : (r : Refusal) → c ≡ R.Refused r → C.Refused r ≡ checkedBy (rulesOfRun a ps)
-  unfolding runRead
-  run-refused r p =
-      sym (refused-any R.Refused (R.Residues (length (unpacked ps))) (rulesOfRun a ps) r (λ x q. cc) (λ q. clash (cc)) (sym e ∙ p) C.Refused C.Passed)
+module _ (a : ℕ) (ps : List ℕ) (x : RunLength) (e : x ≡ runLength a ps) where
+  pub run-refused : x ≡ NoRun → C.Refused BadRun ≡ checkedBy (rulesOfRun a ps)
+  unfolding rulesOfRun
+  run-refused f = rw (read-not a ps x e f)
 
-  pub run-passed : (n : ℕ) → c ≡ R.Residues n → AllHold (rulesOfRun a ps) × (n ≡ length (unpacked ps))
-  unfolding runRead
-  run-passed n p =
-      let v = passes-with R.Refused (R.Residues (length (unpacked ps))) (R.Residues n) (λ r q. clash (cc)) (rulesOfRun a ps) (sym e ∙ p) in
-      let t = v .1 in
-      (v .0, (cc))
+  pub run-passed : (n : ℕ) → x ≡ Residues n → AllHold (rulesOfRun a ps) × (n ≡ length (unpacked ps))
+  unfolding rulesOfRun
+  run-passed n f = let g = read-formed a ps x e n f in ((g .0, tt), g .1)
 
 module _ (i s : List ℕ) (a n : ℕ) (c : Runs) (e : c ≡ runsTo i s a n) where
   pub runs-refused : (r : Refusal) → c ≡ U.Refused r → (more : List (Rule Refusal)) {B : Type 0} (told : Refusal → B) (fine : B)

@@ -1,29 +1,16 @@
--- What one pass over the packets of a run, over all runs, and over all metadata records finds.
+-- What one pass over all runs and over all metadata records finds.
 -- Assumes nothing.
 use mathlib.Core.List.{List}
 use Prim.Native.Nat.{ℕ}
-use lib.ListN.{length}
 use Rattle.laws.specs.Places.{sumTo, largestTo}
 use Rattle.laws.specs.Rules.{verdict}
-use Rattle.packets.specs.Runs.{unpacked}
-use Rattle.dsqdata.specs.declared.runs.Run.{Run}
-use Rattle.dsqdata.specs.declared.runs.Run.the-variants as R
 use Rattle.dsqdata.specs.declared.runs.Runs.{Runs}
 use Rattle.dsqdata.specs.declared.runs.Runs.the-variants as U
 use Rattle.dsqdata.specs.declared.records.Records.{Records}
 use Rattle.dsqdata.specs.declared.records.Records.the-variants as M
 use Rattle.dsqdata.specs.Ends.{residuesAt}
 use Rattle.dsqdata.specs.Records.{nameAt, accessionAt, descriptionAt}
-use Rattle.dsqdata.specs.Check.{rulesTo, rulesOfRun, runRulesTo, rulesOfRecord}
-
--- One run: its residues, or the refusal of its first broken rule.
-unfoldable pub runRead : ℕ → List ℕ → Run
-runRead alphabet packets = verdict R.Refused (R.Residues (length (unpacked packets))) (rulesOfRun alphabet packets)
-
--- The residues of a run; none where it was refused.
-abbrev pub residuesOf : Run → ℕ
-residuesOf (R.Residues count) = count
-residuesOf (R.Refused r) = 0
+use Rattle.dsqdata.specs.Check.{rulesTo, runRulesTo, rulesOfRecord}
 
 -- The first n runs: the total of residues and the longest, or the first refusal.
 unfoldable pub runsTo : List ℕ → List ℕ → ℕ → ℕ → Runs

@@ -1,23 +1,22 @@
-// The runs of a set, read packet by packet in one pass: whether each is well formed, and how many residues it has.
+// The runs of a set, read one after another: whether each is well formed, and how many residues it has.
 use crate::ends::after_end;
-use crate::header::field4;
 use crate::header::signed8;
 use answers::Refusal;
 use packets::PacketPos;
+use packets::RunLength;
 ghost use mathlib.Core.Path.{_≡_};
-ghost use Prim.Native.Nat.{max, _≤_};
+ghost use Prim.Native.Nat.{max, _≤_, _<_};
+ghost use lib.ListN.{length};
 ghost use lib.Seq.{slice};
 ghost use Rattle.laws.specs.Rules.{AllHold};
-ghost use Rattle.dsqdata.specs.Header.{packetsIn, packetAt, bodyOf};
+ghost use Rattle.packets.specs.Reading.{runLength};
+ghost use Rattle.dsqdata.specs.Header.{packetsIn, bodyOf};
 ghost use Rattle.dsqdata.specs.Ends.{packetTable};
 ghost use Rattle.dsqdata.specs.Check.{endsRules};
-ghost use Rattle.dsqdata.specs.Scans.{residuesOf, runRead, runsTo};
+ghost use Rattle.dsqdata.specs.Scans.{runsTo};
 
-// One run: its residues.
-pub(crate) enum Run {
-    Residues(usize),
-    Refused(Refusal),
-}
+// The bytes of a sequence file before its packets: magic and tag.
+const HEADER: u64 = 8;
 
 // All runs: the total of residues and the longest.
 pub(crate) enum Runs {
@@ -35,55 +34,19 @@ pub(crate) fn larger(a: usize, b: usize) -> usize
     a
 }
 
-// The residues of a run; none where it was refused.
-fn residues_of(run: Run) -> usize
-    ensures { λ r. ⌜ r ≡ residuesOf run ⌝ }
+// Reads the run of the packets from one place up to, not including, another.
+fn read_run(sequence: &[u8], alphabet: u32, from: PacketPos, to: PacketPos) -> RunLength
+    requires { ⌜ (from .0 < to .0) × (to .0 ≤ packetsIn (now sequence)) × (length (now sequence) ≤ 2147483647) ⌝ }
+    ensures { λ r. ⌜ r ≡ runLength alphabet (slice (from .0) (to .0) (bodyOf (now (sequence .entry)))) ⌝ }
 {
-    match run {
-        Run::Residues(count) => count,
-        Run::Refused(_) => 0,
-    }
-}
-
-// The packet at a place of a sequence file.
-fn packet_at(sequence: &[u8], place: PacketPos) -> u32
-    ensures { λ r. ⌜ r ≡ packetAt (now (sequence .entry)) (place .0) ⌝ }
-{
-    let at = packets::byte_of(place, 8);
-    field4(sequence, at.0 as usize)
-}
-
-// Reads the run of the packets from one place up to, not including, another, each once.
-fn read_run(sequence: &[u8], alphabet: u32, from: PacketPos, to: PacketPos) -> Run
-    requires { ⌜ (to .0 ≤ packetsIn (now sequence)) × (packetsIn (now sequence) ≤ 536870912) ⌝ }
-    ensures { λ r. ⌜ r ≡ runRead alphabet (slice (from .0) (to .0) (bodyOf (now (sequence .entry)))) ⌝ }
-{
-    let start = from.0;
-    let end = to.0;
-    if end <= start {
-        return Run::Refused(Refusal::BadRun);
-    }
-    let mut residues: usize = 0;
-    let mut p = start;
-    while p + 1 < end {
-        let packet = packet_at(sequence, PacketPos(p));
-        if !packets::is_inner(alphabet, packet) {
-            return Run::Refused(Refusal::BadRun);
-        }
-        residues += packets::code_count(packet);
-        p += 1;
-    }
-    let last = packet_at(sequence, PacketPos(p));
-    let before = packets::state_after((p - start) as usize);
-    if packets::is_ended(packets::step(alphabet, before, last)) {
-        return Run::Residues(residues + packets::residue_count(last));
-    }
-    Run::Refused(Refusal::BadRun)
+    let start = packets::byte_of(from, HEADER);
+    let end = packets::byte_of(to, HEADER);
+    byte_runs::read_run(alphabet, &sequence[start.0 as usize..end.0 as usize])
 }
 
 // Reads all runs between the packet ends.
 pub(crate) fn check_runs(index: &[u8], sequence: &[u8], alphabet: u32, n: usize) -> Runs
-    requires { ⌜ (n ≤ 134217728) × (packetsIn (now sequence) ≤ 536870912) ⌝ }
+    requires { ⌜ (n ≤ 134217728) × (length (now sequence) ≤ 2147483647) ⌝ }
     requires { ⌜ AllHold (endsRules (now index) packetTable n (packetsIn (now sequence))) ⌝ }
     ensures { λ r. ⌜ r ≡ runsTo (now (index .entry)) (now (sequence .entry)) alphabet n ⌝ }
 {
@@ -93,11 +56,9 @@ pub(crate) fn check_runs(index: &[u8], sequence: &[u8], alphabet: u32, n: usize)
     let mut k: usize = 0;
     while k < n {
         let to = PacketPos(after_end(signed8(index, 60 + 16 * k)));
-        let run = read_run(sequence, alphabet, from, to);
-        if let Run::Refused(r) = run {
-            return Runs::Refused(r);
-        }
-        let count = residues_of(run);
+        let RunLength::Residues(count) = read_run(sequence, alphabet, from, to) else {
+            return Runs::Refused(Refusal::BadRun);
+        };
         residues += count;
         longest = larger(longest, count);
         from = to;

@@ -17,9 +17,9 @@ use Rattle.residues.specs.Alphabets.{isAmino, codeLimit}
 use Rattle.packets.specs.Packing.{plain, isTwoBit, filled, size, run}
 use Rattle.packets.specs.Runs.{endsRun, isFiveBit, beforeFill, residues, onlyFill, validTailed, inner, final, formed, wellFormed, unpacked}
 use Rattle.packets.proofs.Packing.{plain-short, plain-two, two-plain, amino-five, filled-whole, size-two, size-five, packet-two, packet-five, run-last, run-more}
-use Rattle.packets.proofs.Steps.{final-bit, inner-bit}
 use Rattle.packets.proofs.Round.{formed-well, unpacked-cons, unpacked-nil}
-use Rattle.packets.proofs.Shapes.{inner-six, final-tailed, five-residues, five-most, two-residues, two-plain-codes, inner-nucleic, final-nucleic, rest-some}
+use Rattle.packets.proofs.Codes.{residues-five, residues-two}
+use Rattle.packets.proofs.Shapes.{inner-bit, final-bit, inner-six, final-tailed, five-most, two-plain-codes, inner-nucleic, final-nucleic, rest-some}
 
 -- ---- the codes of a last packet, filled up again
 
@@ -98,7 +98,7 @@ last-back a p h e = bool-cases (isFiveBit p) five two
         let ds = digits 5 6 p in
         let cs = beforeFill ds in
         let l : length ds ≡ 6 = length-digits 5 6 p in
-        let r : residues p ≡ cs = five-residues p f in
+        let r : residues p ≡ cs = residues-five p f in
         let six : length cs ≤ 6 = rw r at (five-most p f) in
         let k = short-five a cs (omega arith) in
         let z : length cs ≤ size a cs = omega (arith, size-five a cs (length cs) k) in
@@ -112,7 +112,7 @@ last-back a p h e = bool-cases (isFiveBit p) five two
         let l : length ds ≡ 15 = length-digits 2 15 p in
         let k : isTwoBit a ds ≡ true = plain-two a ds (final-nucleic p t a e) ∙ two-plain-codes p t in
         let z : length ds ≤ size a ds = omega (arith, size-two a ds (length ds) k) in
-        rw (two-residues p t, run-last a ds z, packet-two a ds (length ds) k, le-leb (length ds) 15 (omega arith), take-all 15 ds (omega arith), value-digits 2 15 p)
+        rw (residues-two p t, run-last a ds z, packet-two a ds (length ds) k, le-leb (length ds) 15 (omega arith), take-all 15 ds (omega arith), value-digits 2 15 p)
         (ap (λ (x : ℕ). x ∷ []) (two-last p h (final-bit a p e) t))
 
 -- a packet of 5-bit codes comes back only where the rule does not want fifteen plain codes together
@@ -138,7 +138,7 @@ inner-back a p rest h e more apart = bool-cases (isFiveBit p) five two
     two t =
         let ds = digits 2 15 p in
         let l : length ds ≡ 15 = length-digits 2 15 p in
-        let r : residues p ≡ ds = two-residues p t in
+        let r : residues p ≡ ds = residues-two p t in
         let len : length (ds ++ rest) ≡ 15 + length rest = length-append ds rest ∙ ap (λ (n : ℕ). n + length rest) l in
         let k : isTwoBit a (ds ++ rest) ≡ true = plain-two a (ds ++ rest) (inner-nucleic p t a e) ∙ plain-append 15 ds rest (two-plain-codes p t) in
         let z : size a (ds ++ rest) ≡ 15 = size-two a (ds ++ rest) (length (ds ++ rest)) k in

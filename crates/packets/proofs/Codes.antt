@@ -2,7 +2,7 @@
 use mathlib.Core.Path.{_≡_, refl, sym, ap, _∙_}
 use mathlib.Core.Bool.{Bool, true, false, not, cond, _&&_}
 use mathlib.Core.List.{List, [], _∷_}
-use Prim.Native.Nat.{ℕ, suc, _+_, _/_, _%_, _^_, _-_, _≤_, _<_}
+use Prim.Native.Nat.{ℕ, suc, _+_, _*_, _/_, _%_, _^_, _-_, _≤_, _<_}
 use native.Mathlib.Omega.{arith}
 use lib.Dec.{eqb, leb}
 use lib.ListN.{length, take, drop, set}
@@ -103,57 +103,51 @@ unfolding codesIn
 codes-is p = refl
 
 module _ (a p : ℕ) where
-  pub inner-ends : p / 2 ^ 31 % 2 ≡ 1 → inner a p ≡ false
-  inner-ends h = rw (inner-is, eq-eqb (p / 2 ^ 31 % 2) 1 h)
+  pub final-goes : endsRun p ≡ false → final a p ≡ false
+  final-goes h = rw (final-is, h)
 
-  pub inner-five : (p / 2 ^ 31 % 2 ≡ 1 → ⊥) → p / 2 ^ 30 % 2 ≡ 1 → inner a p ≡ allBelow (codeLimit a) (digits 5 6 p)
-  inner-five h k = rw (inner-is, ne-eqb (p / 2 ^ 31 % 2) 1 h, eq-eqb (p / 2 ^ 30 % 2) 1 k)
+  pub final-five : endsRun p ≡ true → isFiveBit p ≡ true → final a p ≡ validTailed (codeLimit a) (digits 5 6 p)
+  final-five h k = rw (final-is, h, k)
 
-  pub inner-two : (p / 2 ^ 31 % 2 ≡ 1 → ⊥) → (p / 2 ^ 30 % 2 ≡ 1 → ⊥) → inner a p ≡ not (isAmino a)
-  inner-two h k = rw (inner-is, ne-eqb (p / 2 ^ 31 % 2) 1 h, ne-eqb (p / 2 ^ 30 % 2) 1 k)
-
-  pub final-goes : (p / 2 ^ 31 % 2 ≡ 1 → ⊥) → final a p ≡ false
-  final-goes h = rw (final-is, ne-eqb (p / 2 ^ 31 % 2) 1 h)
-
-  pub final-five : p / 2 ^ 31 % 2 ≡ 1 → p / 2 ^ 30 % 2 ≡ 1 → final a p ≡ validTailed (codeLimit a) (digits 5 6 p)
-  final-five h k = rw (final-is, eq-eqb (p / 2 ^ 31 % 2) 1 h, eq-eqb (p / 2 ^ 30 % 2) 1 k)
-
-  pub final-two : p / 2 ^ 31 % 2 ≡ 1 → (p / 2 ^ 30 % 2 ≡ 1 → ⊥) → final a p ≡ not (isAmino a)
-  final-two h k = rw (final-is, eq-eqb (p / 2 ^ 31 % 2) 1 h, ne-eqb (p / 2 ^ 30 % 2) 1 k)
+  pub final-two : endsRun p ≡ true → isFiveBit p ≡ false → final a p ≡ not (isAmino a)
+  final-two h k = rw (final-is, h, k)
 
 module _ (p : ℕ) where
-  pub residues-five : p / 2 ^ 30 % 2 ≡ 1 → residues p ≡ beforeFill (digits 5 6 p)
-  residues-five h = rw (residues-is, eq-eqb (p / 2 ^ 30 % 2) 1 h)
+  pub residues-five : isFiveBit p ≡ true → residues p ≡ beforeFill (digits 5 6 p)
+  residues-five h = rw (residues-is, h)
 
-  pub residues-two : (p / 2 ^ 30 % 2 ≡ 1 → ⊥) → residues p ≡ digits 2 15 p
-  residues-two h = rw (residues-is, ne-eqb (p / 2 ^ 30 % 2) 1 h)
+  pub residues-two : isFiveBit p ≡ false → residues p ≡ digits 2 15 p
+  residues-two h = rw (residues-is, h)
 
-  pub codes-five : p / 2 ^ 30 % 2 ≡ 1 → codesIn p ≡ digits 5 6 p
-  codes-five h = rw (codes-is, eq-eqb (p / 2 ^ 30 % 2) 1 h)
+  pub codes-five : isFiveBit p ≡ true → codesIn p ≡ digits 5 6 p
+  codes-five h = rw (codes-is, h)
 
-  pub codes-two : (p / 2 ^ 30 % 2 ≡ 1 → ⊥) → codesIn p ≡ digits 2 15 p
-  codes-two h = rw (codes-is, ne-eqb (p / 2 ^ 30 % 2) 1 h)
+  pub codes-two : isFiveBit p ≡ false → codesIn p ≡ digits 2 15 p
+  codes-two h = rw (codes-is, h)
 
 -- a packet has at most fifteen residues
 pub residues-most : (p : ℕ) → length (residues p) ≤ 15
 residues-most p =
     bool-cases (isFiveBit p)
-    (λ e. omega (arith, ap length (residues-five p (eqb-true _ 1 e)), before-le (digits 5 6 p), length-digits 5 6 p))
-    (λ e. omega (arith, ap length (residues-two p (eqb-false _ 1 e)), length-digits 2 15 p))
+    (λ e. omega (arith, ap length (residues-five p e), before-le (digits 5 6 p), length-digits 5 6 p))
+    (λ e. omega (arith, ap length (residues-two p e), length-digits 2 15 p))
 
--- .. and as many codes
-pub codes-most : (p : ℕ) → length (codesIn p) ≤ 15
-codes-most p =
+-- six codes where bit 30 is set, otherwise fifteen
+pub codes-count : (p : ℕ) → length (codesIn p) + 9 * (p / 2 ^ 30 % 2) ≡ 15
+codes-count p =
     bool-cases (isFiveBit p)
-    (λ e. omega (arith, ap length (codes-five p (eqb-true _ 1 e)), length-digits 5 6 p))
-    (λ e. omega (arith, ap length (codes-two p (eqb-false _ 1 e)), length-digits 2 15 p))
+    (λ e. let q : p / 2 ^ 30 % 2 ≡ 1 = eqb-true _ 1 e in omega (arith, ap length (codes-five p e), length-digits 5 6 p))
+    (λ e.
+    let n = eqb-false (p / 2 ^ 30 % 2) 1 e in
+    let q : p / 2 ^ 30 % 2 ≡ 0 = omega arith in
+    omega (arith, ap length (codes-two p e), length-digits 2 15 p))
 
 -- a packet that may stand in an amino run has 5-bit codes
 pub amino-codes : (p : ℕ) → inner 3 p ≡ true → codesIn p ≡ digits 5 6 p
 amino-codes p e =
     let q = both-pass (not (endsRun p)) (cond (isFiveBit p) (allBelow 28 (digits 5 6 p)) false) (sym (inner-is 3 p) ∙ e) in
     let f = cond-passed (isFiveBit p) (λ (z : false ≡ true). never z) (q .1) .0 in
-    codes-five p (eqb-true _ 1 f)
+    codes-five p f
 
 -- ---- codes written
 

@@ -12,7 +12,7 @@ use lib.Signed.{_≤ℤ_, _<ℤ_, leZ-yes}
 use Rattle.laws.proofs.Tests.{never, both-pass}
 use Rattle.packets.specs.Runs.{endsRun, inner, final, formed, wellFormed}
 use Rattle.packets.specs.Ends.{after, lastPlace, between, MakesAfter, Makes}
-use Rattle.packets.proofs.Steps.{final-bit, inner-bit}
+use Rattle.packets.proofs.Shapes.{final-bit, inner-bit}
 
 clash {ℓ} : {X : Type ℓ} (p q : ℕ) → p ≡ q → endsRun p ≡ true → endsRun q ≡ false → X
 clash p q e t f = never (sym f ∙ (rw (← e) t))

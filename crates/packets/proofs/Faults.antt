@@ -98,7 +98,7 @@ all-low : every low 32 ≡ true
 unfolding low agree
 all-low = refl
 
-bits-four : (j : ℕ) → j < 6 → 554189328 / 2 ^ (5 * j) % 32 ≡ 16
+bits-four : (j : ℕ) → j < 6 → 0x21084210 / 2 ^ (5 * j) % 32 ≡ 16
 bits-four zero h = refl
 bits-four (suc zero) h = refl
 bits-four (suc (suc zero)) h = refl
@@ -107,16 +107,16 @@ bits-four (suc (suc (suc (suc zero)))) h = refl
 bits-four (suc (suc (suc (suc (suc zero))))) h = refl
 bits-four (suc (suc (suc (suc (suc (suc j)))))) h = let z : ⊥ = omega arith in absurd z
 
-low-digit : (p j : ℕ) → j < 6 → ltb (bitAnd p 554189328 / 2 ^ (5 * j) % 32) 1 ≡ ltb (p / 2 ^ (5 * j) % 32) 16
+low-digit : (p j : ℕ) → j < 6 → ltb (bitAnd p 0x21084210 / 2 ^ (5 * j) % 32) 1 ≡ ltb (p / 2 ^ (5 * j) % 32) 16
 unfolding low
 low-digit p j h =
     let d = p / 2 ^ (5 * j) % 32 in
-    let e : bitAnd p 554189328 / 2 ^ (5 * j) % 32 ≡ bitAnd d 16 = cut-and p 554189328 (5 * j) ∙ ap (bitAnd d) (bits-four j h) in
+    let e : bitAnd p 0x21084210 / 2 ^ (5 * j) % 32 ≡ bitAnd d 16 = cut-and p 0x21084210 (5 * j) ∙ ap (bitAnd d) (bits-four j h) in
     let t = every-at low 32 d (omega arith) all-low in
     rw e (agree-same (ltb (bitAnd d 16) 1) (ltb d 16) t)
 
-pub low-codes : (p : ℕ) → eqb (bitAnd p 554189328) 0 ≡ allBelow 16 (digits 5 6 p)
-low-codes p = none-below (bitAnd p 554189328) (omega (arith, and-le-r p 554189328)) ∙ same-below 16 p (bitAnd p 554189328) (low-digit p)
+pub low-codes : (p : ℕ) → eqb (bitAnd p 0x21084210) 0 ≡ allBelow 16 (digits 5 6 p)
+low-codes p = none-below (bitAnd p 0x21084210) (omega (arith, and-le-r p 0x21084210)) ∙ same-below 16 p (bitAnd p 0x21084210) (low-digit p)
 
 -- ---- amino: bits 4, 3 and 2 of each code
 
@@ -130,7 +130,7 @@ all-high : every high 128 ≡ true
 unfolding high agree
 all-high = refl
 
-bits-two : (j : ℕ) → j < 6 → 138547332 / 2 ^ (5 * j) % 32 ≡ 4
+bits-two : (j : ℕ) → j < 6 → 0x08421084 / 2 ^ (5 * j) % 32 ≡ 4
 bits-two zero h = refl
 bits-two (suc zero) h = refl
 bits-two (suc (suc zero)) h = refl
@@ -146,10 +146,10 @@ shift-two p k j = let e : k + j ≡ j + k = omega arith in shr-shr p k j ∙ (ap
 masked-digit : (p m j : ℕ) → m / 2 ^ j % 32 ≡ 4 → bitAnd p m / 2 ^ j % 32 ≡ bitAnd (p / 2 ^ j % 32) 4
 masked-digit p m j e = cut-and p m j ∙ ap (bitAnd (p / 2 ^ j % 32)) e
 
-high-digit : (p j : ℕ) → j < 6 → ltb (highBits 138547332 p / 2 ^ (5 * j) % 32) 1 ≡ ltb (p / 2 ^ (5 * j) % 32) 28
+high-digit : (p j : ℕ) → j < 6 → ltb (highBits 0x08421084 p / 2 ^ (5 * j) % 32) 1 ≡ ltb (p / 2 ^ (5 * j) % 32) 28
 unfolding high
 high-digit p j h =
-    let m : ℕ = 138547332 in
+    let m : ℕ = 0x08421084 in
     let i : ℕ = 5 * j in
     let q = p / 2 ^ i in
     let w = q % 128 in
@@ -163,10 +163,10 @@ high-digit p j h =
     let t = every-at high 128 w (omega arith) all-high in
     rw (f, e₀) (agree-same _ _ t)
 
-pub high-codes : (p : ℕ) → eqb (highBits 138547332 p) 0 ≡ allBelow 28 (digits 5 6 p)
+pub high-codes : (p : ℕ) → eqb (highBits 0x08421084 p) 0 ≡ allBelow 28 (digits 5 6 p)
 high-codes p =
-    none-below (highBits 138547332 p) (omega (arith, and-le-l (bitAnd p 138547332) (bitAnd (bitAnd (p / 2) 138547332) (bitAnd (p / 4) 138547332)), and-le-r p 138547332))
-    ∙ same-below 28 p (highBits 138547332 p) (high-digit p)
+    none-below (highBits 0x08421084 p) (omega (arith, and-le-l (bitAnd p 0x08421084) (bitAnd (bitAnd (p / 2) 0x08421084) (bitAnd (p / 4) 0x08421084)), and-le-r p 0x08421084))
+    ∙ same-below 28 p (highBits 0x08421084 p) (high-digit p)
 
 -- ---- the tests of a packet
 
@@ -197,14 +197,14 @@ top-nucleic p h =
     (λ e. let q : p / 2147483648 % 2 ≡ 1 = eqb-true _ 1 e in rw e (ne-eqb (p / 2147483648) 0 (λ x. omega arith)))
     (λ e. let q : p / 2147483648 % 2 ≡ 1 → ⊥ = eqb-false _ 1 e in let z : p / 2147483648 ≡ 0 = omega arith in rw e (eq-eqb (p / 2147483648) 0 z))
 
-pub five-most : (p : ℕ) → bitAnd p 554189328 * (p / 1073741824 % 2) ≤ 554189328
+pub five-most : (p : ℕ) → bitAnd p 0x21084210 * (p / 1073741824 % 2) ≤ 0x21084210
 five-most p =
     bool-cases (isFiveBit p)
-    (λ e. let q : p / 1073741824 % 2 ≡ 1 = eqb-true _ 1 e in rw (q, mul-one) (and-le-r p 554189328))
+    (λ e. let q : p / 1073741824 % 2 ≡ 1 = eqb-true _ 1 e in rw (q, mul-one) (and-le-r p 0x21084210))
     (λ e. let n = eqb-false (p / 1073741824 % 2) 1 e in let q : p / 1073741824 % 2 ≡ 0 = omega arith in rw (q, mul-zero) (omega arith))
 
 -- the codes count where bit 30 is set
-five-part : (p : ℕ) → eqb (bitAnd p 554189328 * (p / 1073741824 % 2)) 0 ≡ cond (isFiveBit p) (allBelow 16 (digits 5 6 p)) true
+five-part : (p : ℕ) → eqb (bitAnd p 0x21084210 * (p / 1073741824 % 2)) 0 ≡ cond (isFiveBit p) (allBelow 16 (digits 5 6 p)) true
 five-part p =
     bool-cases (isFiveBit p)
     (λ e. let q : p / 1073741824 % 2 ≡ 1 = eqb-true _ 1 e in rw (e, q, mul-one) (low-codes p))
@@ -227,14 +227,14 @@ top-amino p h =
     let b : p / 1073741824 % 2 ≡ 1 → ⊥ = λ x. q (not-one p h a x) in
     e ∙ rw (f, ne-eqb (p / 1073741824 % 2) 1 b)))
 
-pub amino-fault : (p : ℕ) → p < 2 ^ 32 → eqb (bitOr (highBits 138547332 p) (bitXor (p / 1073741824) 1)) 0 ≡ inner 3 p
+pub amino-fault : (p : ℕ) → p < 2 ^ 32 → eqb (bitOr (highBits 0x08421084 p) (bitXor (p / 1073741824) 1)) 0 ≡ inner 3 p
 amino-fault p h =
-    or-none (highBits 138547332 p) (bitXor (p / 1073741824) 1)
+    or-none (highBits 0x08421084 p) (bitXor (p / 1073741824) 1)
     ∙ (rw (xor-one (p / 1073741824), top-amino p h, high-codes p, inner-is 3 p) (moved (allBelow 28 (digits 5 6 p)) (endsRun p) (isFiveBit p)))
 
-pub nucleic-fault : (p : ℕ) → p < 2 ^ 32 → eqb (bitOr (bitAnd p 554189328 * (p / 1073741824 % 2)) (p / 2147483648)) 0 ≡ inner 1 p
+pub nucleic-fault : (p : ℕ) → p < 2 ^ 32 → eqb (bitOr (bitAnd p 0x21084210 * (p / 1073741824 % 2)) (p / 2147483648)) 0 ≡ inner 1 p
 nucleic-fault p h =
-    or-none (bitAnd p 554189328 * (p / 1073741824 % 2)) (p / 2147483648)
+    or-none (bitAnd p 0x21084210 * (p / 1073741824 % 2)) (p / 2147483648)
     ∙ rw (top-nucleic p h, five-part p, inner-is 1 p) (swapped (endsRun p) (cond (isFiveBit p) (allBelow 16 (digits 5 6 p)) true))
 
 pub inner-nucleic : (a p : ℕ) → (a ≡ 3 → ⊥) → inner 1 p ≡ inner a p

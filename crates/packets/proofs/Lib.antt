@@ -4,7 +4,6 @@ pub mod Fours
 pub mod Faults
 pub mod Filled
 pub mod Bases
-pub mod Steps
 pub mod Packed
 pub mod Round
 pub mod Shapes

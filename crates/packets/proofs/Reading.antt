@@ -1,93 +1,134 @@
--- A run read packet by packet: each packet before the last may stand there, its codes are counted, and the last packet decides.
--- The values are those that a loop reads and computes. Assumes nothing.
+-- A run read with no test between packets: all that stand before the last at once, and then the last one decides. Assumes nothing.
 use mathlib.Core.Path.{_≡_, refl, sym, ap, _∙_}
-use mathlib.Core.Bool.{Bool, true, false}
-use mathlib.Core.List.{List}
-use Prim.Native.Nat.{ℕ, zero, suc, _+_, _*_, _≤_, _<_}
+use mathlib.Core.Bool.{Bool, true, false, cond}
+use mathlib.Core.List.{List, [], _∷_}
+use Prim.Native.Nat.{ℕ, zero, suc, _+_, _*_, _/_, _%_, _^_, _≤_, _<_}
 use native.Mathlib.Numerals.{add-one}
 use native.Mathlib.Omega.{arith}
-use lib.ListN.{length, drop, getD}
-use Rattle.packets.specs.declared.RunState.{RunState}
-use Rattle.packets.specs.declared.RunState.the-variants.{Empty}
-use Rattle.packets.specs.Runs.{codesIn, residues, inner, wellFormed, unpacked}
-use Rattle.packets.specs.Steps.{runStep, runSteps, stateAfter, ended}
-use Rattle.laws.specs.Places.{every, sumTo}
+use borrow.Author.Tests.{ne-eqb}
+use lib.Bits.{bitOr}
+use lib.Dec.{eqb}
+use lib.ListN.{length, drop, getD, drop-of-length-le}
 use Rattle.laws.proofs.Digits.{length-digits}
 use Rattle.laws.proofs.Tests.{never, bool-cases, both-pass}
-use Rattle.packets.proofs.Codes.{codes-most, amino-codes}
+use Rattle.laws.proofs.Writing.{drop-step}
+use Rattle.packets.specs.Runs.{codesIn, residues, inner, formed, wellFormed, unpacked}
+use Rattle.packets.specs.Reading.{innerTo, codesTo, fiveBitTo, runLength}
+use Rattle.packets.specs.declared.RunLength.{RunLength}
+use Rattle.packets.specs.declared.RunLength.the-variants.{Residues, NoRun}
+use Rattle.packets.proofs.Codes.{codes-count, amino-codes}
+use Rattle.packets.proofs.Faults.{or-none}
 use Rattle.packets.proofs.Lengths.{unpacked-most}
-use Rattle.packets.proofs.Shapes.{inner-not, count-inner, count-last}
-use Rattle.packets.proofs.Steps.{inner-turn, last-turn}
+use Rattle.packets.proofs.Round.{formed-well}
+use Rattle.packets.proofs.Shapes.{none-not, inner-not, count-inner, count-last}
+
+formed-more : (a : ℕ) (w : Bool) (p q : ℕ) (ps : List ℕ) → inner a p ≡ true → formed a w (p ∷ q ∷ ps) ≡ formed a false (q ∷ ps)
+unfolding formed
+formed-more a w p q ps e = rw e
+
+-- ---- the first n packets
+
+module _ (ps : List ℕ) where
+  -- fifteen codes to each, less nine to one of 5-bit codes
+  pub codes-fives : (n : ℕ) → codesTo ps n + 9 * fiveBitTo ps n ≡ 15 * n
+  codes-fives zero = omega arith
+  codes-fives (suc n) = omega (arith, codes-fives n, codes-count (getD ps n 0))
+
+  -- a turn of a loop that reads packet i, p
+  module _ (i p : ℕ) (l : p ≡ getD ps i 0) where
+    pub inner-more : (a faults fault : ℕ) → eqb faults 0 ≡ innerTo a ps i → eqb fault 0 ≡ inner a p → eqb (bitOr faults fault) 0 ≡ innerTo a ps (i + 1)
+    inner-more a faults fault e f = or-none faults fault ∙ rw (add-one i, e, f, l)
+
+    pub codes-more : (total n : ℕ) → total ≡ codesTo ps i → n ≡ length (codesIn p) → total + n ≡ codesTo ps (i + 1)
+    codes-more total n e f = rw (add-one i, e, f, l)
+
+    pub five-more : (total : ℕ) → total ≡ fiveBitTo ps i → total + p / 2 ^ 30 % 2 ≡ fiveBitTo ps (i + 1)
+    five-more total e = rw (add-one i, e, l)
 
 module _ (a : ℕ) (ps : List ℕ) where
-  -- The first i packets may stand before the last, and have so many residues.
-  pub record ReadTo (i total : ℕ) : Type 0 where
-    pub state : runSteps a (stateAfter i) (drop i ps) ≡ runSteps a Empty ps
-    pub count : length (unpacked ps) ≡ total + length (unpacked (drop i ps))
+  -- six to each, for amino
+  pub codes-amino : (n : ℕ) → a ≡ 3 → innerTo a ps n ≡ true → codesTo ps n ≡ 6 * n
+  codes-amino zero t e = omega arith
+  codes-amino (suc n) t e =
+      let p = both-pass (innerTo a ps n) (inner a (getD ps n 0)) e in
+      let f : inner 3 (getD ps n 0) ≡ true = rw t at (p .1) in
+      omega (arith, codes-amino n t (p .0), ap length (amino-codes (getD ps n 0) f), length-digits 5 6 (getD ps n 0))
 
-  pub read-none : ReadTo 0 0
-  read-none = record { state = refl; count = omega arith }
-
-  pub read-most : (i total : ℕ) → ReadTo i total → total ≤ 15 * length ps
-  read-most i total r = omega (arith, r .count, unpacked-most ps)
-
-  -- packet p at place i
-  module _ (i p : ℕ) (h : p ≡ getD ps i 0) where
-    -- it may stand there, and has n codes
-    pub read-inner : (total n : ℕ) (b : Bool) → i < length ps → b ≡ inner a p → b ≡ true → n ≡ length (codesIn p) → ReadTo i total → ReadTo (i + 1) (total + n)
-    read-inner total n b l e t m r =
-        let f : inner a (getD ps i 0) ≡ true = ap (inner a) (sym h) ∙ (sym e ∙ t) in
-        let k : n ≡ length (codesIn (getD ps i 0)) = m ∙ ap (λ (x : ℕ). length (codesIn x)) h in
-        record { state = sym (inner-turn a ps i l f) ∙ r .state; count = omega (arith, r .count, count-inner a ps i l f) }
-
-    -- it may not stand there
-    pub read-broken : (b : Bool) → i + 1 < length ps → b ≡ inner a p → b ≡ false → wellFormed a ps ≡ false
-    read-broken b l e t = inner-not a ps i l (ap (inner a) (sym h) ∙ (sym e ∙ t))
-
-    -- it is the last: the state after it says whether the run is well formed ..
-    pub read-ended : (total : ℕ) (before after : RunState) (b : Bool) → i + 1 ≡ length ps → ReadTo i total → before ≡ stateAfter i → after ≡ runStep a before p → b ≡ ended after
-        → b ≡ wellFormed a ps
-    read-ended total before after b l r s t e =
-        e ∙ (ap ended (t ∙ (ap (λ (x : RunState). runStep a x p) s ∙ ap (runStep a (stateAfter i)) h)) ∙ last-turn a ps i l (r .state))
-
-    -- .. and its residues are those that are left
-    pub read-total : (total n : ℕ) → i + 1 ≡ length ps → ReadTo i total → n ≡ length (residues p) → total + n ≡ length (unpacked ps)
-    read-total total n l r m =
-        let k : n ≡ length (residues (getD ps i 0)) = m ∙ ap (λ (x : ℕ). length (residues x)) h in
-        omega (arith, r .count, count-last ps i l)
-
-  -- ---- all packets before the last at once
-
-  abbrev pub Stands : ℕ → Bool
-  Stands n = every (λ k. inner a (getD ps k 0)) n
-
-  abbrev pub Counted : ℕ → ℕ
-  Counted n = sumTo (λ k. length (codesIn (getD ps k 0))) n
-
-  -- each may stand there
-  pub read-all : (n : ℕ) → n < length ps → Stands n ≡ true → ReadTo n (Counted n)
-  read-all zero h e = read-none
-  read-all (suc n) h e =
-      let p = both-pass (Stands n) (inner a (getD ps n 0)) e in
-      let r = read-inner n (getD ps n 0) refl (Counted n) (length (codesIn (getD ps n 0))) (inner a (getD ps n 0)) (omega arith) refl (p .1) refl (read-all n (omega arith) (p .0)) in
-      rw add-one at r
-
-  -- one may not
-  pub stands-not : (n : ℕ) → n < length ps → Stands n ≡ false → wellFormed a ps ≡ false
+  -- one may not stand there
+  stands-not : (n : ℕ) → n < length ps → innerTo a ps n ≡ false → wellFormed a ps ≡ false
   stands-not zero h e = never (sym e)
   stands-not (suc n) h e =
-      bool-cases (Stands n)
+      bool-cases (innerTo a ps n)
       (λ t. let f : inner a (getD ps n 0) ≡ false = rw t at e in inner-not a ps n (omega arith) f)
       (λ t. stands-not n (omega arith) t)
 
-  pub counted-most : (n : ℕ) → Counted n ≤ 15 * n
-  counted-most zero = omega arith
-  counted-most (suc n) = omega (arith, counted-most n, codes-most (getD ps n 0))
+  -- each may: what is left decides, and has the other residues
+  formed-turn : (w : Bool) (i : ℕ) → i + 1 < length ps → inner a (getD ps i 0) ≡ true → formed a w (drop i ps) ≡ formed a false (drop (i + 1) ps)
+  formed-turn w i h e =
+      rw (drop-step ps i 0 (omega arith), drop-step ps (i + 1) 0 h) (formed-more a w (getD ps i 0) (getD ps (i + 1) 0) (drop (i + 1 + 1) ps) e)
 
-  -- six to each, for amino
-  pub counted-amino : (n : ℕ) → a ≡ 3 → Stands n ≡ true → Counted n ≡ 6 * n
-  counted-amino zero t e = omega arith
-  counted-amino (suc n) t e =
-      let p = both-pass (Stands n) (inner a (getD ps n 0)) e in
-      let f : inner 3 (getD ps n 0) ≡ true = rw t at (p .1) in
-      omega (arith, counted-amino n t (p .0), ap length (amino-codes (getD ps n 0) f), length-digits 5 6 (getD ps n 0))
+  formed-rest : (n : ℕ) → n < length ps → innerTo a ps n ≡ true → formed a (eqb n 0) (drop n ps) ≡ wellFormed a ps
+  formed-rest zero h e = sym (formed-well a ps)
+  formed-rest (suc n) h e =
+      let p = both-pass (innerTo a ps n) (inner a (getD ps n 0)) e in
+      rw (ne-eqb (suc n) 0 (λ z. omega arith), ← add-one n) (sym (formed-turn (eqb n 0) n (omega arith) (p .1)) ∙ formed-rest n (omega arith) (p .0))
+
+  count-rest : (n : ℕ) → n < length ps → innerTo a ps n ≡ true → length (unpacked ps) ≡ codesTo ps n + length (unpacked (drop n ps))
+  count-rest zero h e = omega arith
+  count-rest (suc n) h e =
+      let p = both-pass (innerTo a ps n) (inner a (getD ps n 0)) e in
+      let c = count-inner a ps n (omega arith) (p .1) in
+      let d = rw add-one at c in
+      omega (arith, count-rest n (omega arith) (p .0), d)
+
+  -- ---- what reading finds
+
+  pub found-none : length ps ≡ 0 → NoRun ≡ runLength a ps
+  unfolding runLength
+  found-none h = rw (none-not a ps h)
+
+  -- n packets stand before the last
+  module _ (n : ℕ) (h : n + 1 ≡ length ps) where
+    pub found-broken : innerTo a ps n ≡ false → NoRun ≡ runLength a ps
+    unfolding runLength
+    found-broken e = rw (stands-not n (omega arith) e)
+
+    -- the last, p, decides by the test b
+    module _ (e : innerTo a ps n ≡ true) (p : ℕ) (l : p ≡ getD ps n 0) (b : Bool) (t : b ≡ formed a (eqb n 0) (p ∷ [])) where
+      left : drop n ps ≡ p ∷ []
+      left = rw (drop-step ps n 0 (omega arith), drop-of-length-le ps {i = n + 1} (omega arith), l)
+
+      decides : b ≡ wellFormed a ps
+      decides = t ∙ (ap (formed a (eqb n 0)) (sym left) ∙ formed-rest n (omega arith) e)
+
+      pub found-open : b ≡ false → NoRun ≡ runLength a ps
+      unfolding runLength
+      found-open f = rw (sym decides ∙ f)
+
+      -- m codes before it, and its k residues
+      module _ (m k : ℕ) (c : m ≡ codesTo ps n) (r : k ≡ length (residues p)) where
+        total : m + k ≡ length (unpacked ps)
+        total = omega (arith, count-rest n (omega arith) e, count-last ps n h, r ∙ ap (λ (x : ℕ). length (residues x)) l)
+
+        pub found-most : m + k ≤ 15 * length ps
+        found-most = omega (arith, total, unpacked-most ps)
+
+        pub found-run : b ≡ true → Residues (m + k) ≡ runLength a ps
+        unfolding runLength
+        found-run f = rw (sym decides ∙ f, total)
+
+-- what was found says of the packets
+module _ (a : ℕ) (ps : List ℕ) (x : RunLength) (e : x ≡ runLength a ps) where
+  found : (b : Bool) → wellFormed a ps ≡ b → x ≡ cond b (Residues (length (unpacked ps))) NoRun
+  unfolding runLength
+  found b w = e ∙ rw w
+
+  pub read-formed : (l : ℕ) → x ≡ Residues l → (wellFormed a ps ≡ true) × (l ≡ length (unpacked ps))
+  read-formed l f =
+      bool-cases (wellFormed a ps)
+      (λ w. let g = sym f ∙ found true w in (w, cc))
+      (λ w. let g = sym f ∙ found false w in absurd (let z : _≡_ {A = ℕ} 0 1 = cc in omega arith))
+
+  pub read-not : x ≡ NoRun → wellFormed a ps ≡ false
+  read-not f =
+      bool-cases (wellFormed a ps) (λ w. let g = sym f ∙ found true w in absurd (let z : _≡_ {A = ℕ} 0 1 = cc in omega arith)) (λ w. w)

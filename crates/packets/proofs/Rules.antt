@@ -16,10 +16,9 @@ use Rattle.residues.proofs.Alphabets.{limit-most}
 use Rattle.packets.specs.Runs.{endsRun, isFiveBit, beforeFill, residues, hasResidues, onlyFill, validTailed, inner, final, formed, wellFormed}
 use Rattle.packets.specs.Rules.{Bit, fiveBitCode, WellFormed}
 use Rattle.packets.proofs.Packing.{limit-some}
-use Rattle.packets.proofs.Codes.{inner-is, final-is}
-use Rattle.packets.proofs.Steps.{final-bit, inner-bit}
+use Rattle.packets.proofs.Codes.{inner-is, final-is, residues-five}
 use Rattle.packets.proofs.Round.{formed-well}
-use Rattle.packets.proofs.Shapes.{inner-valid, final-tailed, five-residues, two-fifteen, inner-nucleic, final-nucleic, well-some, well-inner, well-final}
+use Rattle.packets.proofs.Shapes.{inner-bit, final-bit, inner-valid, final-tailed, two-fifteen, inner-nucleic, final-nucleic, well-some, well-inner, well-final}
 
 -- ---- the codes of a packet by their places
 
@@ -178,7 +177,7 @@ module _ (a : ℕ) (ps : List ℕ) (e : wellFormed a ps ≡ true) where
     noneWhole = λ k h b q.
         ⊎-elim
         (λ n. formed-whole a true ps k (sym (formed-well a ps) ∙ e) n
-        (ap length (five-residues (getD ps k 0) (five k b)) ∙ first-none (digits 5 6 (getD ps k 0)) (rw (six (getD ps k 0)) (omega arith)) (sym (code k 0 (omega arith)) ∙ q)) .1)
+        (ap length (residues-five (getD ps k 0) (five k b)) ∙ first-none (digits 5 6 (getD ps k 0)) (rw (six (getD ps k 0)) (omega arith)) (sym (code k 0 (omega arith)) ∙ q)) .1)
         (λ n. absurd (not-fill k 0 n b (omega arith) q))
         (place k h);
   }
@@ -225,7 +224,7 @@ module _ (a : ℕ) (ps : List ℕ) (r : WellFormed a ps) where
       (λ f.
       bool-cases (hasResidues p) (λ s. s)
       (λ s.
-      let z : length (beforeFill (digits 5 6 p)) ≡ 0 = sym (ap length (five-residues p f)) ∙ (let y : length (residues p) ≡ 0 = omega (arith, ltb-false 0 (length (residues p)) s) in y) in
+      let z : length (beforeFill (digits 5 6 p)) ≡ 0 = sym (ap length (residues-five p f)) ∙ (let y : length (residues p) ≡ 0 = omega (arith, ltb-false 0 (length (residues p)) s) in y) in
       let b : Bit 30 p = eqb-true (p / 2 ^ 30 % 2) 1 f in
       let q : fiveBitCode p 0 ≡ 31 = sym (code-at p 0 (omega arith)) ∙ none-first (digits 5 6 p) (rw (length-digits 5 6 p) (omega arith)) z in
       let y : ⊥ = omega (arith, r .noneWhole k (omega arith) b q) in absurd y))

@@ -19,8 +19,16 @@ use Rattle.residues.proofs.Alphabets.{valid-below}
 use Rattle.packets.specs.Packing.{plain}
 use Rattle.packets.specs.Runs.{endsRun, isFiveBit, codesIn, beforeFill, residues, hasResidues, validTailed, inner, final, formed, wellFormed, unpacked}
 use Rattle.packets.proofs.Packing.{below-plain}
-use Rattle.packets.proofs.Codes.{residues-is, inner-is, final-is, codes-is, before-le, before-all}
+use Rattle.packets.proofs.Codes.{inner-is, final-is, before-le, before-all, residues-five, residues-two, codes-five, codes-two}
 use Rattle.packets.proofs.Round.{formed-well, unpacked-cons, unpacked-nil}
+
+-- ---- bit 31
+
+pub inner-bit : (a p : ℕ) → inner a p ≡ true → endsRun p ≡ false
+inner-bit a p e = not-true (endsRun p) (both-pass (not (endsRun p)) _ (rw inner-is at e) .0)
+
+pub final-bit : (a p : ℕ) → final a p ≡ true → endsRun p ≡ true
+final-bit a p e = both-pass (endsRun p) _ (rw final-is at e) .0
 
 -- ---- packets of 5-bit codes
 
@@ -29,25 +37,19 @@ module _ (a p : ℕ) (five : isFiveBit p ≡ true) where
   inner-valid e = both-pass (not (endsRun p)) (validCodes a (digits 5 6 p)) (rw (inner-is, five) at e) .1
 
   pub inner-six : inner a p ≡ true → residues p ≡ digits 5 6 p
-  inner-six e = rw (residues-is, five) (before-all (digits 5 6 p) (valid-below a (digits 5 6 p) (inner-valid e)))
+  inner-six e = residues-five p five ∙ (before-all (digits 5 6 p) (valid-below a (digits 5 6 p) (inner-valid e)))
 
   pub final-tailed : final a p ≡ true → validTailed (codeLimit a) (digits 5 6 p) ≡ true
   final-tailed e = both-pass (endsRun p) (validTailed (codeLimit a) (digits 5 6 p)) (rw (final-is, five) at e) .1
 
-pub five-residues : (p : ℕ) → isFiveBit p ≡ true → residues p ≡ beforeFill (digits 5 6 p)
-five-residues p five = rw (residues-is, five)
-
 pub five-most : (p : ℕ) → isFiveBit p ≡ true → length (residues p) ≤ 6
-five-most p five = rw (five-residues p five) (omega (arith, before-le (digits 5 6 p), length-digits 5 6 p))
+five-most p five = rw (residues-five p five) (omega (arith, before-le (digits 5 6 p), length-digits 5 6 p))
 
 -- ---- packets of 2-bit codes
 
 module _ (p : ℕ) (two : isFiveBit p ≡ false) where
-  pub two-residues : residues p ≡ digits 2 15 p
-  two-residues = rw (residues-is, two)
-
   pub two-fifteen : length (residues p) ≡ 15
-  two-fifteen = ap length two-residues ∙ length-digits 2 15 p
+  two-fifteen = ap length (residues-two p two) ∙ length-digits 2 15 p
 
   pub two-plain-codes : plain 15 (digits 2 15 p) ≡ true
   two-plain-codes =
@@ -65,14 +67,14 @@ module _ (p : ℕ) (two : isFiveBit p ≡ false) where
 -- a packet before the last holds no 31: its residues are its codes
 pub inner-codes : (a p : ℕ) → inner a p ≡ true → residues p ≡ codesIn p
 inner-codes a p e =
-    bool-cases (isFiveBit p) (λ f. inner-six a p f e ∙ rw (codes-is, f)) (λ t. two-residues p t ∙ rw (codes-is, t))
+    bool-cases (isFiveBit p) (λ f. inner-six a p f e ∙ sym (codes-five p f)) (λ t. residues-two p t ∙ sym (codes-two p t))
 
 four-least : (b : Bool) → 4 ≤ cond b 28 16
 four-least true = lit≤ tt
 four-least false = lit≤ tt
 
 two-valid : (a p : ℕ) → isFiveBit p ≡ false → validCodes a (residues p) ≡ true
-two-valid a p t = rw (two-residues p t) (below-weaken 4 (codeLimit a) (digits 2 15 p) (four-least (isAmino a)) (digits-below 2 15 p))
+two-valid a p t = rw (residues-two p t) (below-weaken 4 (codeLimit a) (digits 2 15 p) (four-least (isAmino a)) (digits-below 2 15 p))
 
 before-valid : (m : ℕ) (ds : List ℕ) → validTailed m ds ≡ true → allBelow m (beforeFill ds) ≡ true
 unfolding validTailed beforeFill
@@ -90,7 +92,7 @@ inner-residues-valid a p e = bool-cases (isFiveBit p) (λ f. rw (inner-six a p f
 pub final-residues-valid : (a p : ℕ) → final a p ≡ true → validCodes a (residues p) ≡ true
 final-residues-valid a p e =
     bool-cases (isFiveBit p)
-    (λ f. rw (five-residues p f) (before-valid (codeLimit a) (digits 5 6 p) (final-tailed a p f e)))
+    (λ f. rw (residues-five p f) (before-valid (codeLimit a) (digits 5 6 p) (final-tailed a p f e)))
     (λ t. two-valid a p t)
 
 -- ---- all packets of a run

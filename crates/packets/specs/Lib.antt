@@ -1,7 +1,7 @@
 pub mod Positions
 pub mod Packing
 pub mod Runs
-pub mod Steps
+pub mod Reading
 pub mod Ends
 pub mod Rules
 pub mod Bytes

@@ -1,10 +1,11 @@
-// Packets: places, one packet from codes and back, and the step by step test of a run. Every public function is total.
+// Packets: places, one packet from codes and back, and the tests of a packet by its place in a run. Every public function is total.
 mod encoding;
 
 pub use encoding::encode;
 pub use encoding::sixes_of;
 pub use encoding::valid_codes;
 ghost use mathlib.Core.Path.{_≡_};
+ghost use mathlib.Core.List.{[], _∷_};
 ghost use Prim.Native.Nat.{_+_, _≤_, _<_};
 ghost use lib.Dec.{leb, ltb, eqb};
 ghost use lib.ListN.{length, take};
@@ -12,8 +13,7 @@ ghost use Rattle.laws.specs.Digits.{digits};
 ghost use Rattle.laws.specs.Writing.{writtenAt};
 ghost use Rattle.fields.specs.Written.{littleBytes};
 ghost use Rattle.packets.specs.Positions.{byteOf};
-ghost use Rattle.packets.specs.Runs.{codesIn, beforeFill, residues, onlyFill, validTailed, inner, final};
-ghost use Rattle.packets.specs.Steps.{goneOn, closed, runStep, stateAfter, ended};
+ghost use Rattle.packets.specs.Runs.{endsRun, isFiveBit, codesIn, beforeFill, residues, onlyFill, validTailed, inner, final, formed};
 ghost use Rattle.packets.specs.Decoded.{codesPut, residuesPut};
 
 // A place counted in packets.
@@ -28,16 +28,10 @@ pub struct Next {
     pub size: usize,
 }
 
-// Where a run stands after some packets.
-pub enum RunState {
-    // no packet yet
-    Empty,
-    // packets, none of which ends a run
-    Inside,
-    // a well-formed run
-    Ended,
-    // no well-formed run begins so
-    Broken,
+// What reading packets as a run finds: the number of its residues, or that it is not well formed.
+pub enum RunLength {
+    Residues(usize),
+    NoRun,
 }
 
 // The byte at which a packet begins, behind a header of so many bytes.
@@ -51,11 +45,25 @@ pub fn byte_of(place: PacketPos, header: u64) -> BytePos
     BytePos(4 * at + header)
 }
 
+// Whether a packet ends a run.
+fn ends_run(packet: u32) -> bool
+    ensures { λ r. ⌜ r ≡ endsRun packet ⌝ }
+{
+    packet / 0x80000000 % 2 == 1
+}
+
+// Whether a packet holds six 5-bit codes; otherwise it holds fifteen 2-bit codes.
+fn is_five_bit(packet: u32) -> bool
+    ensures { λ r. ⌜ r ≡ isFiveBit packet ⌝ }
+{
+    packet / 0x40000000 % 2 == 1
+}
+
 // The number of codes of a packet, those that are 31 among them.
 pub fn code_count(packet: u32) -> usize
     ensures { λ r. ⌜ r ≡ length (codesIn packet) ⌝ }
 {
-    if packet / 1073741824 % 2 == 1 {
+    if is_five_bit(packet) {
         return 6;
     }
     15
@@ -114,29 +122,30 @@ fn count_before(packet: u32) -> usize
 pub fn residue_count(packet: u32) -> usize
     ensures { λ r. ⌜ r ≡ length (residues packet) ⌝ }
 {
-    if packet / 1073741824 % 2 != 1 {
+    if !is_five_bit(packet) {
         return 15;
     }
     count_before(packet)
 }
 
-// 0 where a packet may stand in an amino run before its last packet: bits 31 and 30 are 01, and no code has all of its bits 4, 3 and 2.
+// 0 where a packet may stand in an amino run before its last: bits 31 and 30 are 01, and no code is above 27. The mask takes bit 2 of each
+// of the six codes, so one expression without a branch tests all of them, and a loop over packets is vectorised.
 fn amino_fault(packet: u32) -> u32
     ensures { λ r. ⌜ eqb r 0 ≡ inner 3 packet ⌝ }
 {
-    let high = (packet & 138547332) & ((packet / 2 & 138547332) & (packet / 4 & 138547332));
-    high | (packet / 1073741824 ^ 1)
+    let high = (packet & 0x08421084) & ((packet / 2 & 0x08421084) & (packet / 4 & 0x08421084));
+    high | (packet / 0x40000000 ^ 1)
 }
 
-// 0 where a packet may stand in a nucleic run before its last packet: bit 31 is clear, and no 5-bit code has its bit 4.
+// 0 where a packet may stand in a nucleic run before its last: bit 31 is clear, and no 5-bit code is above 15. The mask takes bit 4 of each.
 fn nucleic_fault(packet: u32) -> u32
     ensures { λ r. ⌜ eqb r 0 ≡ inner 1 packet ⌝ }
 {
-    let five = packet / 1073741824 % 2;
-    (packet & 554189328) * five | packet / 2147483648
+    let five = packet / 0x40000000 % 2;
+    (packet & 0x21084210) * five | packet / 0x80000000
 }
 
-// 0 where a packet may stand in a run before its last packet. No test but the alphabet's: a loop over packets has none.
+// 0 where a packet may stand in a run before its last.
 pub fn inner_fault(alphabet: u32, packet: u32) -> u32
     ensures { λ r. ⌜ eqb r 0 ≡ inner alphabet packet ⌝ }
 {
@@ -146,89 +155,30 @@ pub fn inner_fault(alphabet: u32, packet: u32) -> u32
     nucleic_fault(packet)
 }
 
-// Whether a packet may stand in a run before its last packet.
-pub fn is_inner(alphabet: u32, packet: u32) -> bool
-    ensures { λ r. ⌜ r ≡ inner alphabet packet ⌝ }
-{
-    inner_fault(alphabet, packet) == 0
-}
-
 // Whether a packet may be a run's last.
 fn is_final(alphabet: u32, packet: u32) -> bool
     ensures { λ r. ⌜ r ≡ final alphabet packet ⌝ }
 {
-    if packet / 2147483648 % 2 != 1 {
+    if !ends_run(packet) {
         return false;
     }
-    if packet / 1073741824 % 2 == 1 {
+    if is_five_bit(packet) {
         return codes_tailed(packet, residues::code_limit(alphabet) as u32);
     }
     alphabet != 3
 }
 
-// The state after a packet that does not end the run.
-fn gone_on(state: RunState) -> RunState
-    ensures { λ r. ⌜ r ≡ goneOn state ⌝ }
+// Whether a packet may end a run, of which it is the only packet or not: one without residues stands only as the whole run.
+pub fn is_last(alphabet: u32, alone: bool, packet: u32) -> bool
+    ensures { λ r. ⌜ r ≡ formed alphabet alone (packet ∷ []) ⌝ }
 {
-    match state {
-        RunState::Empty => RunState::Inside,
-        RunState::Inside => RunState::Inside,
-        RunState::Ended => RunState::Broken,
-        RunState::Broken => RunState::Broken,
+    if !is_final(alphabet, packet) {
+        return false;
     }
-}
-
-// The state after a packet of so many residues that ends the run.
-fn close(state: RunState, count: usize) -> RunState
-    ensures { λ r. ⌜ r ≡ closed (ltb 0 count) state ⌝ }
-{
-    match state {
-        RunState::Empty => RunState::Ended,
-        RunState::Inside => {
-            if 0 < count {
-                RunState::Ended
-            } else {
-                RunState::Broken
-            }
-        }
-        RunState::Ended => RunState::Broken,
-        RunState::Broken => RunState::Broken,
+    if alone {
+        return true;
     }
-}
-
-// The state of a run after one packet more.
-pub fn step(alphabet: u32, state: RunState, packet: u32) -> RunState
-    ensures { λ r. ⌜ r ≡ runStep alphabet state packet ⌝ }
-{
-    if is_inner(alphabet, packet) {
-        return gone_on(state);
-    }
-    if is_final(alphabet, packet) {
-        return close(state, residue_count(packet));
-    }
-    RunState::Broken
-}
-
-// The state of a run after so many packets that may stand before its last.
-pub fn state_after(count: usize) -> RunState
-    ensures { λ r. ⌜ r ≡ stateAfter count ⌝ }
-{
-    if count == 0 {
-        return RunState::Empty;
-    }
-    RunState::Inside
-}
-
-// Whether the packets so far are a well-formed run.
-pub fn is_ended(state: RunState) -> bool
-    ensures { λ r. ⌜ r ≡ ended state ⌝ }
-{
-    match state {
-        RunState::Empty => false,
-        RunState::Inside => false,
-        RunState::Ended => true,
-        RunState::Broken => false,
-    }
+    0 < residue_count(packet)
 }
 
 // The four 2-bit codes of a byte as the bytes of a number, the first code in the lowest.
@@ -280,7 +230,7 @@ fn has_room(room: usize, at: usize, count: usize) -> bool
 pub fn decode_codes(packet: u32, out: &mut [u8], at: usize)
     ensures { λ _. ⌜ now (out .exit) ≡ codesPut packet at (now (out .entry)) ⌝ }
 {
-    if packet / 1073741824 % 2 == 1 {
+    if is_five_bit(packet) {
         if has_room(out.len(), at, 6) {
             put_first(packet, 6, out, at);
         }
@@ -295,7 +245,7 @@ pub fn decode_codes(packet: u32, out: &mut [u8], at: usize)
 pub fn decode(packet: u32, out: &mut [u8], at: usize)
     ensures { λ _. ⌜ now (out .exit) ≡ residuesPut packet at (now (out .entry)) ⌝ }
 {
-    if packet / 1073741824 % 2 == 1 {
+    if is_five_bit(packet) {
         let count = count_before(packet);
         if has_room(out.len(), at, count) {
             put_first(packet, count, out, at);

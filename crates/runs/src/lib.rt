@@ -2,15 +2,18 @@
 use answers::Checked;
 use answers::Refusal;
 use packets::PacketPos;
+use packets::RunLength;
 ghost use mathlib.Core.Path.{_≡_};
 ghost use mathlib.Core.Bool.{true};
 ghost use Prim.Native.Nat.{_+_, _≤_};
+ghost use lib.Dec.{eqb};
 ghost use lib.ListN.{length};
 ghost use Rattle.laws.specs.Writing.{writtenAt};
 ghost use Rattle.answers.specs.Limits.{checkedBy};
 ghost use Rattle.residues.specs.Alphabets.{validCodes};
 ghost use Rattle.packets.specs.Packing.{run};
 ghost use Rattle.packets.specs.Runs.{wellFormed, unpacked};
+ghost use Rattle.packets.specs.Reading.{innerTo, codesTo, runLength};
 ghost use Rattle.runs.specs.Answers.{runFits, packRules, packAnswer, packetsAfter, unpackAnswer, codesAfter};
 
 // What packing answers: the run's packets and L, or why it refuses.
@@ -142,38 +145,54 @@ pub fn pack(alphabet: u32, codes: &[u8], packets: &mut [u32], place: PacketPos) 
     }
 }
 
-// Whether packets are a well-formed run.
-fn is_run(alphabet: u32, packets: &[u32]) -> bool
-    ensures { λ r. ⌜ r ≡ wellFormed alphabet (now (packets .entry)) ⌝ }
+// The faults of the first packets, put together: 0 where each may stand in a run before its last. No packet ends the loop early, so that
+// the compiler tests several at once.
+fn inner_faults(alphabet: u32, packets: &[u32], count: usize) -> u32
+    requires { ⌜ count ≤ length (now packets) ⌝ }
+    ensures { λ r. ⌜ eqb r 0 ≡ innerTo alphabet (now (packets .entry)) count ⌝ }
 {
-    if packets.len() == 0 {
-        return false;
-    }
-    let last = packets.len() - 1;
+    let mut faults: u32 = 0;
     let mut i: usize = 0;
-    while i < last {
-        if !packets::is_inner(alphabet, packets[i]) {
-            return false;
-        }
+    while i < count {
+        faults = faults | packets::inner_fault(alphabet, packets[i]);
         i += 1;
     }
-    let state = packets::step(alphabet, packets::state_after(last), packets[last]);
-    packets::is_ended(state)
+    faults
 }
 
-// The number of residues of a well-formed run.
-fn count_residues(alphabet: u32, packets: &[u32]) -> usize
-    requires { ⌜ (wellFormed alphabet (now packets) ≡ true) × (length (now packets) ≤ 536870912) ⌝ }
-    ensures { λ r. ⌜ r ≡ length (unpacked (now (packets .entry))) ⌝ }
+// The number of codes of the first packets.
+fn count_codes(packets: &[u32], count: usize) -> usize
+    requires { ⌜ (count ≤ length (now packets)) × (count ≤ 536870912) ⌝ }
+    ensures { λ r. ⌜ r ≡ codesTo (now (packets .entry)) count ⌝ }
 {
-    let last = packets.len() - 1;
     let mut total: usize = 0;
     let mut i: usize = 0;
-    while i < last {
+    while i < count {
         total += packets::code_count(packets[i]);
         i += 1;
     }
-    total + packets::residue_count(packets[last])
+    total
+}
+
+// Reads packets as a run.
+fn read_run(alphabet: u32, packets: &[u32]) -> RunLength
+    requires { ⌜ length (now packets) ≤ 536870912 ⌝ }
+    ensures { λ r. ⌜ r ≡ runLength alphabet (now (packets .entry)) ⌝ }
+{
+    let count = packets.len();
+    if count == 0 {
+        return RunLength::NoRun;
+    }
+    let last = count - 1;
+    if inner_faults(alphabet, packets, last) != 0 {
+        return RunLength::NoRun;
+    }
+    let packet = packets[last];
+    if !packets::is_last(alphabet, last == 0, packet) {
+        return RunLength::NoRun;
+    }
+    let before = count_codes(packets, last);
+    RunLength::Residues(before + packets::residue_count(packet))
 }
 
 // What unpacking answers with so many bytes of room; nothing is written.
@@ -186,10 +205,9 @@ fn unpack_answer(alphabet: u32, packets: &[u32], room: usize) -> UnpackAnswer
     if !residues::is_alphabet(alphabet) {
         return UnpackAnswer::Refused(Refusal::WrongKind);
     }
-    if !is_run(alphabet, packets) {
+    let RunLength::Residues(total) = read_run(alphabet, packets) else {
         return UnpackAnswer::Refused(Refusal::BadRun);
-    }
-    let total = count_residues(alphabet, packets);
+    };
     if room < total {
         return UnpackAnswer::Refused(Refusal::NoRoom);
     }

@@ -20,8 +20,8 @@ enum-known-r c = search needs
 enum-told : tie.Need-enum-told
 enum-told c = search needs
 
-write-run-bytes-requires : tie.Need-write-run-bytes-requires
-write-run-bytes-requires c κs = let a = (c .before .before .before .before .before .before .args) in
+write-run-requires : tie.Need-write-run-requires
+write-run-requires c κs = let a = (c .before .before .before .before .before .before .args) in
     let cs = now (a .codes) in
     let room = length (now (a .bytes)) / 4 in
     let check = (c .before .before .before .check-pack) in
@@ -46,8 +46,8 @@ returns-2 c = let a = (c .before .before .before .before .before .before .before
     let check = (c .before .before .before .before .before .before .check-pack) in
     let m = check-passed (a .alphabet) cs room (a .place .0) (check .result) (check .ensures) ((c .before .before .before .before .enum-told) .given .1) in
     let e = pack-done (a .alphabet) cs room (a .place .0) m in (
-      ap (λ (n : ℕ). Packed n (length cs)) ((c .before .before .write-run-bytes) .ensures .0) ∙ sym e,
-      (c .before .before .write-run-bytes) .ensures .1 ∙ sym (bytes-written (a .alphabet) cs (now (a .bytes)) (a .place .0) (length (run (a .alphabet) cs)) (length cs) e),
+      ap (λ (n : ℕ). Packed n (length cs)) ((c .before .before .write-run) .ensures .0) ∙ sym e,
+      (c .before .before .write-run) .ensures .1 ∙ sym (bytes-written (a .alphabet) cs (now (a .bytes)) (a .place .0) (length (run (a .alphabet) cs)) (length cs) e),
     )
 
 pub pack-bytes-spec : {M : Type 1} → statement M
@@ -57,7 +57,7 @@ pack-bytes-spec =
     check-pack-requires
     enum-known-r
     enum-told
-    write-run-bytes-requires
+    write-run-requires
     returns
     same-length
     returns-2)

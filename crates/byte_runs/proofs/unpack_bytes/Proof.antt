@@ -16,8 +16,8 @@ enum-known-r c = search needs
 enum-known-count : tie.Need-enum-known-count
 enum-known-count c = search needs
 
-write-residues-bytes-requires : tie.Need-write-residues-bytes-requires
-write-residues-bytes-requires c κs = let a = (c .before .before .before .before .before .before .before .args) in
+write-residues-requires : tie.Need-write-residues-requires
+write-residues-requires c κs = let a = (c .before .before .before .before .before .before .before .args) in
     let bytes = now (a .bytes) in
     let out = now (a .out) in
     let answer = (c .before .before .before .before .unpack-bytes-answer) in
@@ -46,7 +46,7 @@ returns-2 c = let a = (c .before .before .before .before .before .before .before
     let n = (c .before .before .before .before .before .count) .given .0 .0 in
     let l = (c .before .before .before .before .before .count) .given .0 .1 .0 in
     let e = sym (answer .ensures) ∙ (c .before .before .before .before .before .count) .given .1 in
-    (sym e, (c .before .before .write-residues-bytes) .ensures ∙ sym (codes-bytes-written (a .alphabet) bytes out n l e))
+    (sym e, (c .before .before .write-residues) .ensures ∙ sym (codes-bytes-written (a .alphabet) bytes out n l e))
 
 pub unpack-bytes-spec : {M : Type 1} → statement M
 unpack-bytes-spec =
@@ -55,7 +55,7 @@ unpack-bytes-spec =
     unpack-bytes-answer-requires
     enum-known-r
     enum-known-count
-    write-residues-bytes-requires
+    write-residues-requires
     returns
     same-length
     returns-2)

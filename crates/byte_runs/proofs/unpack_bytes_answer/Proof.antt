@@ -10,7 +10,8 @@ use Rattle.packets.specs.Runs.{unpacked}
 use Rattle.packets.specs.Bytes.{packetsOf}
 use Rattle.packets.proofs.Bytes.{length-packets}
 use Rattle.runs.proofs.Answers.{run-wrong, run-bad, run-full, run-done}
-use Rattle.byte_runs.proofs.Answers.{read-formed, read-not, unpack-bytes-large, unpack-bytes-short, unpack-bytes-as}
+use Rattle.packets.proofs.Reading.{read-formed, read-not}
+use Rattle.byte_runs.proofs.Answers.{read-fits, unpack-bytes-large, unpack-bytes-short, unpack-bytes-as}
 use borrow.Author.Needs.{needs}
 use Rattle.byte_runs.proofs.unpack_bytes_answer.Statement.{statement}
 use Rattle.byte_runs.proofs.unpack_bytes_answer.Tie as tie
@@ -48,17 +49,19 @@ returns-4 : tie.Need-returns-4
 returns-4 c = let a = (c .before .before .before .before .before .before .before .before .args) in
     let bytes = now (a .bytes) in
     let ps = packetsOf bytes in
+    let fits = read-fits (a .alphabet) bytes ((c .before .before .before .before .before .before .if1) .left) in
     let s = unpack-bytes-as (a .alphabet) bytes (a .room) ((c .before .before .before .before .before .before .if1) .left) ((c .before .before .before .before .before .if2) .left) in
     let k = sym ((c .before .before .before .before .is-alphabet) .ensures) ∙ not-false _ ((c .before .before .before .if3) .left) in
-    sym (s ∙ run-bad (a .alphabet) ps (a .room) k (read-not (a .alphabet) ps ((c .before .before .read-run) .result) ((c .before .before .read-run) .ensures) ((c .enum-told) .given .1)))
+    sym (s ∙ run-bad (a .alphabet) ps (a .room) k (read-not (a .alphabet) ps ((c .before .before .read-run) .result) ((c .before .before .read-run) .ensures ∙ fits) ((c .enum-told) .given .1)))
 
 returns-5 : tie.Need-returns-5
 returns-5 c = let a = (c .before .before .before .before .before .before .before .before .before .before .args) in
     let bytes = now (a .bytes) in
     let ps = packetsOf bytes in
+    let fits = read-fits (a .alphabet) bytes ((c .before .before .before .before .before .before .before .before .if1) .left) in
     let s = unpack-bytes-as (a .alphabet) bytes (a .room) ((c .before .before .before .before .before .before .before .before .if1) .left) ((c .before .before .before .before .before .before .before .if2) .left) in
     let k = sym ((c .before .before .before .before .before .before .is-alphabet) .ensures) ∙ not-false _ ((c .before .before .before .before .before .if3) .left) in
-    let f = read-formed (a .alphabet) ps ((c .before .before .before .before .read-run) .result) ((c .before .before .before .before .read-run) .ensures) ((c .before .before .total) .given .0 .0) ((c .before .before .total) .given .1) in
+    let f = read-formed (a .alphabet) ps ((c .before .before .before .before .read-run) .result) ((c .before .before .before .before .read-run) .ensures ∙ fits) ((c .before .before .total) .given .0 .0) ((c .before .before .total) .given .1) in
     let n = f .1 in
     sym (s ∙ run-full (a .alphabet) ps (a .room) k (f .0) (omega arith))
 
@@ -66,9 +69,10 @@ returns-6 : tie.Need-returns-6
 returns-6 c = let a = (c .before .before .before .before .before .before .before .before .before .before .args) in
     let bytes = now (a .bytes) in
     let ps = packetsOf bytes in
+    let fits = read-fits (a .alphabet) bytes ((c .before .before .before .before .before .before .before .before .if1) .left) in
     let s = unpack-bytes-as (a .alphabet) bytes (a .room) ((c .before .before .before .before .before .before .before .before .if1) .left) ((c .before .before .before .before .before .before .before .if2) .left) in
     let k = sym ((c .before .before .before .before .before .before .is-alphabet) .ensures) ∙ not-false _ ((c .before .before .before .before .before .if3) .left) in
-    let f = read-formed (a .alphabet) ps ((c .before .before .before .before .read-run) .result) ((c .before .before .before .before .read-run) .ensures) ((c .before .before .total) .given .0 .0) ((c .before .before .total) .given .1) in
+    let f = read-formed (a .alphabet) ps ((c .before .before .before .before .read-run) .result) ((c .before .before .before .before .read-run) .ensures ∙ fits) ((c .before .before .total) .given .0 .0) ((c .before .before .total) .given .1) in
     let n = f .1 in
     ap (λ (l : ℕ). Unpacked (length bytes / 4) l) n
     ∙ (ap (λ (m : ℕ). Unpacked m (length (unpacked ps))) (sym (length-packets bytes))

@@ -86,7 +86,7 @@ check-runs-requires c κs = let a = (c .before .before .before .before .before .
     let n : a .set .count ≡ countOf i = ap (λ (x : SetRecord). x .count) q in
     let e2 = ends-here i packetTable _ (countOf i) _ (packetsIn s) _ n (ap (λ (x : ℕ). x / 4) ((c .before .before .before .bytes-after-header2) .ensures)) ((c .before .before .check-ends2) .ensures) in
     let h = all-hold (packetEndsRules i s) _ e2 ((c .enum-told2) .given .1) in
-    ((omega (arith, (c .before .before .before .before .before .before .before .before .before .before .before .pre) .0 .1), omega (arith, (c .before .before .before .before .before .before .before .before .before .before .before .pre) .1 .1)), rw n h)
+    ((omega (arith, (c .before .before .before .before .before .before .before .before .before .before .before .pre) .0 .1), (c .before .before .before .before .before .before .before .before .before .before .before .pre) .1 .1), rw n h)
 
 enum-known-runs : tie.Need-enum-known-runs
 enum-known-runs c = search needs

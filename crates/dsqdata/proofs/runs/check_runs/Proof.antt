@@ -13,9 +13,9 @@ use Rattle.dsqdata.specs.declared.runs.Runs.the-variants.{Totals, Refuse
 use Rattle.dsqdata.specs.Header.{packetsIn}
 use Rattle.dsqdata.specs.Ends.{packetTable, endBefore, runAt, residuesAt}
 use Rattle.dsqdata.specs.Check.{rulesOfRun, runRulesTo}
-use Rattle.dsqdata.specs.Scans.{residuesOf, runsTo}
+use Rattle.dsqdata.specs.Scans.{runsTo}
 use Rattle.dsqdata.proofs.EachRule.{rules-more, rules-done, rules-refused}
-use Rattle.dsqdata.proofs.Rising.{end-zero, end-after, ends-rule, ends-within, run-read, residues-most}
+use Rattle.dsqdata.proofs.Rising.{end-zero, end-after, after-rises, ends-rule, ends-within, run-read, residues-most}
 use Rattle.dsqdata.proofs.Wholes.{run-refused, run-passed}
 use borrow.Author.Needs.{needs}
 use Rattle.dsqdata.proofs.runs.check_runs.Statement.{statement}
@@ -48,43 +48,46 @@ after-end-requires : tie.Need-after-end-requires Inv-loop μ-loop
 after-end-requires c κs = search needs
 
 read-run-requires : tie.Need-read-run-requires Inv-loop μ-loop
-read-run-requires c κs = let a = (c .before .before .before .before .before .before .args) in
+read-run-requires c κs =
+    let a = (c .before .before .before .before .before .before .args) in
     let l = (c .before .before .before .loop) in
     let i = now (a .index) in
     let s = now (a .sequence) in
     let to = end-after i packetTable (l .k) _ _ ((c .after-end) .ensures) ((c .before .signed8) .ok) ((c .before .signed8) .ensures) in
-    let w = ends-within i packetTable (a .n) (packetsIn s) (ends-rule i packetTable (a .n) (packetsIn s) ((c .before .before .before .before .before .before .pre) .1)) (suc (l .k)) (omega arith) in
-    (omega (arith, to), omega arith)
+    let r = ends-rule i packetTable (a .n) (packetsIn s) ((c .before .before .before .before .before .before .pre) .1) in
+    let w = ends-within i packetTable (a .n) (packetsIn s) r (suc (l .k)) (omega arith) in
+    let m = after-rises i packetTable (a .n) (r .rises) (l .k) (omega arith) in
+    (omega (arith, to, l .inv .1), omega (arith, to), (c .before .before .before .before .before .before .pre) .0 .1)
 
-enum-known-run : tie.Need-enum-known-run Inv-loop μ-loop
-enum-known-run c = search needs
-
-returns : tie.Need-returns Inv-loop μ-loop
-unfolding runsTo
-returns c = let a = (c .before .before .before .before .before .before .before .before .before .before .args) in
-    let l = (c .before .before .before .before .before .before .before .loop) in
-    let i = now (a .index) in
-    let s = now (a .sequence) in
-    let to = end-after i packetTable (l .k) _ _ ((c .before .before .before .before .after-end) .ensures) ((c .before .before .before .before .before .signed8) .ok) ((c .before .before .before .before .before .signed8) .ensures) in
-    let run = run-read i s (l .k) (a .alphabet) (l .from .0) _ _ (l .inv .1) to ((c .before .before .before .read-run) .ensures) in
-    let e = run-refused (a .alphabet) (runAt i s (l .k)) _ run _ ((c .before .run) .given .1) in
-    sym (rules-refused (λ k. rulesOfRun (a .alphabet) (runAt i s k)) (a .n) (l .k) _ _ (omega arith) (l .inv .5) e refl Refused (Totals (sumTo (residuesAt i s) (a .n)) (largestTo (residuesAt i s) (a .n))))
+enum-known-count : tie.Need-enum-known-count Inv-loop μ-loop
+enum-known-count c = search needs
 
 enum-told : tie.Need-enum-told Inv-loop μ-loop
 enum-told c = search needs
 
-residues-of-requires : tie.Need-residues-of-requires Inv-loop μ-loop
-residues-of-requires c κs = search needs
+returns : tie.Need-returns Inv-loop μ-loop
+unfolding runsTo
+returns c =
+    let a = (c .before .before .before .before .before .before .before .before .before .args) in
+    let l = (c .before .before .before .before .before .before .loop) in
+    let i = now (a .index) in
+    let s = now (a .sequence) in
+    let to = end-after i packetTable (l .k) _ _ ((c .before .before .before .after-end) .ensures) ((c .before .before .before .before .signed8) .ok) ((c .before .before .before .before .signed8) .ensures) in
+    let run = run-read i s (l .k) (a .alphabet) (l .from .0) _ _ (l .inv .1) to ((c .before .before .read-run) .ensures) in
+    let e = run-refused (a .alphabet) (runAt i s (l .k)) _ run ((c .enum-told) .given .1) in
+    let fine = Totals (sumTo (residuesAt i s) (a .n)) (largestTo (residuesAt i s) (a .n)) in
+    sym (rules-refused (λ k. rulesOfRun (a .alphabet) (runAt i s k)) (a .n) (l .k) _ _ (omega arith) (l .inv .5) e refl Refused fine)
 
 add-residues : tie.Need-add-residues Inv-loop μ-loop
-add-residues c = let a = (c .before .before .before .before .before .before .before .before .before .before .args) in
+add-residues c =
+    let a = (c .before .before .before .before .before .before .before .before .before .before .args) in
     let l = (c .before .before .before .before .before .before .before .loop) in
     let i = now (a .index) in
     let s = now (a .sequence) in
     let to = end-after i packetTable (l .k) _ _ ((c .before .before .before .before .after-end) .ensures) ((c .before .before .before .before .before .signed8) .ok) ((c .before .before .before .before .before .signed8) .ensures) in
     let run = run-read i s (l .k) (a .alphabet) (l .from .0) _ _ (l .inv .1) to ((c .before .before .before .read-run) .ensures) in
-    let g = run-passed (a .alphabet) (runAt i s (l .k)) _ run _ ((c .before .enum-told) .given .1) in
-    let n : (c .residues-of) .result ≡ residuesAt i s (l .k) = (c .residues-of) .ensures ∙ (ap residuesOf ((c .before .enum-told) .given .1) ∙ g .1) in
+    let g = run-passed (a .alphabet) (runAt i s (l .k)) _ run ((c .before .count) .given .0 .0) ((c .before .count) .given .1) in
+    let n = g .1 in
     omega (arith, n, residues-most i s (l .k))
 
 larger-requires : tie.Need-larger-requires Inv-loop μ-loop
@@ -97,17 +100,18 @@ loop-less : tie.Need-loop-less Inv-loop μ-loop
 loop-less c = search needs
 
 loop-again : tie.Need-loop-again Inv-loop μ-loop
-loop-again c = let a = (c .before .before .before .before .before .before .before .before .before .before .before .args) in
+loop-again c =
+    let a = (c .before .before .before .before .before .before .before .before .before .before .before .args) in
     let l = (c .before .before .before .before .before .before .before .before .loop) in
     let i = now (a .index) in
     let s = now (a .sequence) in
     let to = end-after i packetTable (l .k) _ _ ((c .before .before .before .before .before .after-end) .ensures) ((c .before .before .before .before .before .before .signed8) .ok) ((c .before .before .before .before .before .before .signed8) .ensures) in
     let run = run-read i s (l .k) (a .alphabet) (l .from .0) _ _ (l .inv .1) to ((c .before .before .before .before .read-run) .ensures) in
-    let g = run-passed (a .alphabet) (runAt i s (l .k)) _ run _ ((c .before .before .enum-told) .given .1) in
-    let n : (c .before .residues-of) .result ≡ residuesAt i s (l .k) = (c .before .residues-of) .ensures ∙ (ap residuesOf ((c .before .before .enum-told) .given .1) ∙ g .1) in (
+    let g = run-passed (a .alphabet) (runAt i s (l .k)) _ run ((c .before .before .count) .given .0 .0) ((c .before .before .count) .given .1) in
+    let n = g .1 in (
       omega arith,
       to ∙ ap (λ (m : ℕ). after (endBefore i packetTable m)) (sym (add-one (l .k))),
-      ap (λ (x : ℕ). x + (c .before .residues-of) .result) (l .inv .2) ∙ sum-more (residuesAt i s) (l .k) _ n,
+      ap (λ (x : ℕ). x + (c .before .before .count) .given .0 .0) (l .inv .2) ∙ sum-more (residuesAt i s) (l .k) _ n,
       (c .larger) .ensures ∙ largest-more (residuesAt i s) (l .k) _ _ (l .inv .3) n,
       omega (arith, n, residues-most i s (l .k)),
       rules-more (λ k. rulesOfRun (a .alphabet) (runAt i s k)) (l .k) (l .inv .5) (g .0),
@@ -137,10 +141,9 @@ check-runs-spec =
     signed8-requires
     after-end-requires
     read-run-requires
-    enum-known-run
-    returns
+    enum-known-count
     enum-told
-    residues-of-requires
+    returns
     add-residues
     larger-requires
     add-k

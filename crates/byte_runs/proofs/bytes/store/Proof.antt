@@ -1,0 +1,82 @@
+-- `byte_runs::bytes::store`: what is written so far, and what is left to write, are the number's bytes. Assumes nothing.
+use mathlib.Core.Path.{_≡_, refl, ap, _∙_}
+use mathlib.Core.List.{List}
+use Prim.Native.Nat.{ℕ, _≤_, _-_, _+_, _/_, _%_}
+use native.Mathlib.Omega.{arith}
+use lib.ListN.{length, drop, set, length-set}
+use lib.Seq.{paste, paste-zero}
+use denote.Ref.{now}
+use Rattle.laws.proofs.Writing.{write-step, rest-step, paste-whole}
+use Rattle.fields.specs.Written.{littleBytes}
+use Rattle.fields.proofs.Laws.{little-cons, length-little}
+use borrow.Author.Needs.{needs}
+use Rattle.byte_runs.proofs.bytes.store.Statement.{statement}
+use Rattle.byte_runs.proofs.bytes.store.Tie as tie
+
+abbrev Inv-loop : tie.InvT-loop
+Inv-loop n w out₀ at rest₀ j₀ out rest j =
+    (j ≤ w) × (length out ≡ length out₀) × (out ≡ paste out₀ at (littleBytes w n) j) × (drop j (littleBytes w n) ≡ littleBytes (w - j) rest)
+
+abbrev μ-loop : tie.MeasureT-loop
+μ-loop n w out₀ at rest₀ j₀ out rest j = w - j
+
+loop-holds : tie.Need-loop-holds Inv-loop μ-loop
+loop-holds c =
+    let a = (c .args) in
+    let e : a .count - 0 ≡ a .count = omega arith in
+    (omega arith, refl, paste-zero (now (a .out)) (a .at) (littleBytes (a .count) (a .n)), rw e)
+
+cast-out : tie.Need-cast-out Inv-loop μ-loop
+cast-out c = search needs
+
+add-out : tie.Need-add-out Inv-loop μ-loop
+add-out c = search needs
+
+slice-write-out : tie.Need-slice-write-out Inv-loop μ-loop
+slice-write-out c = search needs
+
+add-j : tie.Need-add-j Inv-loop μ-loop
+add-j c = search needs
+
+loop-less : tie.Need-loop-less Inv-loop μ-loop
+loop-less c = search needs
+
+loop-again : tie.Need-loop-again Inv-loop μ-loop
+loop-again c =
+    let l = (c .before .loop) in
+    let a = (c .before .before .args) in
+    let j = l .j in
+    let v = l .rest in
+    let e = l .inv .3 ∙ little-cons (a .count - j) (a .count - (j + 1)) v (omega arith) in (
+      omega arith,
+      simp length-set (l .inv .1),
+      ap (λ (x : List ℕ). set x (a .at + j) (v % 256)) (l .inv .2)
+          ∙ write-step (now (a .out)) (a .at) (littleBytes (a .count) (a .n)) j (v % 256) (littleBytes (a .count - (j + 1)) (v / 256)) (omega arith) e,
+      rest-step (littleBytes (a .count) (a .n)) j (v % 256) (littleBytes (a .count - (j + 1)) (v / 256)) e,
+    )
+
+same-length : tie.Need-same-length Inv-loop μ-loop
+same-length c = (c .before .loop) .inv .1
+
+returns : tie.Need-returns Inv-loop μ-loop
+returns c =
+    let l = (c .before .loop) in
+    let a = (c .before .before .args) in
+    let e : l .j ≡ length (littleBytes (a .count) (a .n)) = omega (arith, length-little (a .count) (a .n)) in
+    l .inv .2 ∙ rw e (paste-whole (a .at) (littleBytes (a .count) (a .n)) (now (a .out)))
+
+pub store-spec : {M : Type 1} → statement M
+store-spec =
+    tie.close
+    (tie.spec
+    Inv-loop
+    μ-loop
+    loop-holds
+    cast-out
+    add-out
+    slice-write-out
+    add-j
+    loop-less
+    loop-again
+    same-length
+    returns)

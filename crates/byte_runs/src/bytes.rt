@@ -1,0 +1,43 @@
+// One packet as little-endian bytes at a place.
+use packets::PacketPos;
+ghost use mathlib.Core.Path.{_≡_};
+ghost use Prim.Native.Nat.{_+_, _/_, _≤_, _<_};
+ghost use lib.ListN.{length, getD};
+ghost use Rattle.laws.specs.Writing.{writtenAt};
+ghost use Rattle.fields.specs.Written.{littleBytes};
+ghost use Rattle.packets.specs.Bytes.{packetsOf};
+
+// A byte as a wider number.
+pub(crate) fn wide(b: u8) -> u32
+    ensures value { λ r. ⌜ r ≡ b ⌝ }
+    ensures small { λ r. ⌜ r < 256 ⌝ }
+{
+    b as u32
+}
+
+// The packet at a place.
+pub(crate) fn packet_at(bytes: &[u8], place: PacketPos) -> u32
+    requires { ⌜ place .0 < length (now bytes) / 4 ⌝ }
+    ensures { λ r. ⌜ r ≡ getD (packetsOf (now (bytes .entry))) (place .0) 0 ⌝ }
+{
+    let from = packets::byte_of(place, 0);
+    let at = from.0 as usize;
+    wide(bytes[at])
+        + wide(bytes[at + 1]) * 256
+        + wide(bytes[at + 2]) * 65536
+        + wide(bytes[at + 3]) * 16777216
+}
+
+// Writes the low bytes of a number from a place on, the lowest first.
+pub(crate) fn store(n: u32, count: usize, out: &mut [u8], at: usize)
+    requires { ⌜ at + count ≤ length (now out) ⌝ }
+    ensures { λ _. ⌜ now (out .exit) ≡ writtenAt at (littleBytes count n) (now (out .entry)) ⌝ }
+{
+    let mut rest = n;
+    let mut j: usize = 0;
+    while j < count {
+        out[at + j] = (rest % 256) as u8;
+        rest = rest / 256;
+        j += 1;
+    }
+}
