@@ -17,8 +17,8 @@ use Rattle.volume.specs.Index.{isProtein}
 use Rattle.volume.specs.Tables.{sequenceStart, proteinLength, dnaEnd, dnaLength, sequenceLength}
 use Rattle.sequence.specs.declared.DecodeAnswer.the-variants.{Decoded}
 use Rattle.sequence.specs.Bases.{baseAt}
-use Rattle.sequence.specs.Corrections.{entryWidth, entryCount, correctionAt, correctedAt, tableRules}
-use Rattle.sequence.specs.Sequence.{byteFrom, rangeEnd, dnaEntryRules, dnaRules, decodeRules, decodeAnswer, decodeNumber, proteinCodes, dnaCodes, residuesOf, decodeOutput}
+use Rattle.sequence.specs.Corrections.{entryWidth, entryCount, correctionAt, correctedAt, rangeRules}
+use Rattle.sequence.specs.Sequence.{byteFrom, rangeEnd, dnaEntryRules, dnaRules, decodeRules, decodeAnswer, decodeNumber, proteinDecoded, dnaDecoded, residuesOf, decodeOutput}
 use Rattle.sequence.specs.Holds.{HasEntries}
 use Rattle.sequence.proofs.Answers.{residues-protein, residues-dna, output-by}
 use Rattle.sequence.proofs.Corrected.{length-residues, residue-at}
@@ -57,7 +57,7 @@ module _ (index sequence : List ℕ) (i : ℕ) (output : List ℕ) (decodes : de
   -- ---- protein
 
   module _ (t : isProtein index ≡ true) where
-    protein-count : length (proteinCodes index sequence i) ≡ proteinLength index i
+    protein-count : length (proteinDecoded index sequence i) ≡ proteinLength index i
     protein-count = length-listTo (λ (k : ℕ). proteinCode (byteFrom sequence (sequenceStart index i) k)) (proteinLength index i)
 
     protein-room : proteinLength index i ≤ length output
@@ -67,23 +67,23 @@ module _ (index sequence : List ℕ) (i : ℕ) (output : List ℕ) (decodes : de
     pub protein-decoded : (k d : ℕ) → k < proteinLength index i
         → getD (decodeOutput index sequence i output) k d ≡ proteinCode (getD sequence (sequenceStart index i + k) 0)
     protein-decoded k d h =
-        code-at (proteinCodes index sequence i) (residues-protein index sequence i t) (proteinLength index i) protein-count protein-room k d h
+        code-at (proteinDecoded index sequence i) (residues-protein index sequence i t) (proteinLength index i) protein-count protein-room k d h
         ∙ listTo-at (λ (j : ℕ). proteinCode (byteFrom sequence (sequenceStart index i) j)) (proteinLength index i) k d h
 
     -- and the rest as it was
     pub protein-rest : (k d : ℕ) → proteinLength index i ≤ k → getD (decodeOutput index sequence i output) k d ≡ getD output k d
-    protein-rest = rest-at (proteinCodes index sequence i) (residues-protein index sequence i t) (proteinLength index i) protein-count protein-room
+    protein-rest = rest-at (proteinDecoded index sequence i) (residues-protein index sequence i t) (proteinLength index i) protein-count protein-room
 
   -- ---- DNA
 
   module _ (t : isProtein index ≡ false) where
-    range-holds : AllHold (tableRules sequence (dnaEnd index i) (rangeEnd index i) (dnaLength index sequence i))
+    range-holds : AllHold (rangeRules sequence (dnaEnd index i) (rangeEnd index i) (dnaLength index sequence i))
     range-holds =
         let a = parts .ownHold in
         let b : AllHold (dnaRules index sequence i) = rw t at a in
-        hold-second (dnaEntryRules index sequence i) (tableRules sequence (dnaEnd index i) (rangeEnd index i) (dnaLength index sequence i)) b
+        hold-second (dnaEntryRules index sequence i) (rangeRules sequence (dnaEnd index i) (rangeEnd index i) (dnaLength index sequence i)) b
 
-    dna-count : length (dnaCodes index sequence i) ≡ dnaLength index sequence i
+    dna-count : length (dnaDecoded index sequence i) ≡ dnaLength index sequence i
     dna-count = length-residues sequence (sequenceStart index i) (dnaEnd index i) (rangeEnd index i) (dnaLength index sequence i) range-holds
 
     dna-room : dnaLength index sequence i ≤ length output
@@ -93,7 +93,7 @@ module _ (index sequence : List ℕ) (i : ℕ) (output : List ℕ) (decodes : de
         → getD (decodeOutput index sequence i output) k d
         ≡ correctedAt sequence (dnaEnd index i + 4) (entryWidth sequence (dnaEnd index i)) (entryCount sequence (dnaEnd index i) (rangeEnd index i)) k (baseAt sequence (sequenceStart index i) k)
     dna-decoded k d h =
-        code-at (dnaCodes index sequence i) (residues-dna index sequence i t) (dnaLength index sequence i) dna-count dna-room k d h
+        code-at (dnaDecoded index sequence i) (residues-dna index sequence i t) (dnaLength index sequence i) dna-count dna-room k d h
         ∙ residue-at sequence (sequenceStart index i) (dnaEnd index i) (rangeEnd index i) (dnaLength index sequence i) range-holds k d h
 
     module _ (w n : ℕ) (e : HasEntries sequence (dnaEnd index i) (rangeEnd index i) w n) (k d : ℕ) where
@@ -117,4 +117,4 @@ module _ (index sequence : List ℕ) (i : ℕ) (output : List ℕ) (decodes : de
           ∙ base-of sequence (sequenceStart index i) k
 
     pub dna-rest : (k d : ℕ) → dnaLength index sequence i ≤ k → getD (decodeOutput index sequence i output) k d ≡ getD output k d
-    dna-rest = rest-at (dnaCodes index sequence i) (residues-dna index sequence i t) (dnaLength index sequence i) dna-count dna-room
+    dna-rest = rest-at (dnaDecoded index sequence i) (residues-dna index sequence i t) (dnaLength index sequence i) dna-count dna-room

@@ -1,5 +1,9 @@
 // Integers at a place of a byte slice, of 4 or 8 bytes, big- or little-endian, unsigned or in two's complement, and numbers written
 // as little-endian bytes. Every public function is total: a byte past the end reads as 0, and a number that does not fit is not written.
+mod sizes;
+
+pub use sizes::natural_at;
+pub use sizes::not_negative_at;
 ghost use mathlib.Core.Path.{_≡_};
 ghost use mathlib.Core.List.{[], _∷_};
 ghost use Prim.Native.Nat.{_+_, _*_, _≤_, _<_};

@@ -30,7 +30,8 @@ use Rattle.volume.specs.declared.IndexAnswer.{IndexAnswer}
 use Rattle.volume.specs.declared.IndexAnswer.the-variants as X
 use Rattle.volume.specs.Index.{titleLength, sequences, headerTable, indexOf, indexAnswer}
 use Rattle.volume.specs.Tables.{offsetAt}
-use Rattle.volume.proofs.Facts.{index-parts, few-sequences}
+use Rattle.volume.proofs.Facts.{few-sequences}
+use Rattle.volume.proofs.Named.{index-tests}
 use Rattle.volume.proofs.Reading as Reading
 use Rattle.labels.specs.declared.LabelAnswer.{LabelAnswer}
 use Rattle.labels.specs.declared.LabelAnswer.the-variants.{InHeader, InIndex, Refused}
@@ -131,15 +132,15 @@ index-read index x e =
     let a = Reading.index-read index x e in
     let q : indexOf index ≡ x = sym (a .1) in
     let rules = a .0 .1 in
-    let parts = index-parts index rules in
+    let tests = index-tests index rules in
     record {
       small = leb-true (length index) 2147483647 (a .0 .0);
       number = sym (ap (λ (y : Index). y .sequences) q);
       few = few-sequences index rules;
       table = sym (ap (λ (y : Index). y .«header_table») q);
-      reaches = leb-true (headerTable index) (length index) (parts .counts .1 .1 .1 .1 .1 .0);
+      reaches = leb-true (headerTable index) (length index) (tests .counts .longestThere);
       title = sym (ap (λ (y : Index). y .«title_length») q);
-      titled = leb-true (12 + titleLength index) (length index) (parts .title .1 .1 .1 .1 .1 .1 .0);
+      titled = leb-true (12 + titleLength index) (length index) (tests .title .titleThere);
     }
 
 -- ---- a label's part lies within its file

@@ -1,110 +1,126 @@
 -- The answer of decoding from the answers of its parts. Assumes nothing.
-use mathlib.Core.Path.{_≡_, refl, sym, ap, _∙_}
+use mathlib.Core.Path.{_≡_, sym, ap, _∙_}
 use mathlib.Core.Bool.{true, false}
 use mathlib.Core.List.{List, _++_}
-use Prim.Native.Nat.{ℕ, _+_, _-_, _/_, _≤_, _<_}
+use Prim.Native.Nat.{ℕ, _+_, _/_, _≤_, _<_}
 use native.Mathlib.Omega.{arith}
-use borrow.Author.Tests.{lt-ltb, le-ltb, le-leb, lt-leb, leb-true, eq-eqb, ne-eqb}
+use borrow.Author.Tests.{lt-ltb, le-ltb, le-leb, lt-leb, leb-true, ltb-true, eq-eqb, ne-eqb}
 use lib.ListN.{length}
+use lib.Signed.{nonNeg}
 use Rattle.laws.specs.Places.{every}
-use Rattle.laws.specs.Rules.{Rule, verdict, AllHold}
+use Rattle.laws.specs.Rules.{Rule, verdict}
+use Rattle.laws.proofs.Signed.{at-least-zero}
 use Rattle.answers.specs.Limits.{checkedBy}
 use Rattle.answers.specs.declared.Refusal.{Refusal}
-use Rattle.answers.specs.declared.Refusal.the-variants.{BadProteinByte, NoRoom, NoSuchSequence, TooLarge}
+use Rattle.answers.specs.declared.Refusal.the-variants.{BadOffsets, BadProteinByte, NoRoom, NoSuchSequence, TooLarge}
 use Rattle.answers.specs.declared.Checked.{Checked}
 use Rattle.answers.specs.declared.Checked.the-variants as C
-use Rattle.laws.proofs.Rules.{hold-first, hold-second}
 use Rattle.answers.proofs.Checks.{all-hold, refused-first, passed-first}
 use Rattle.volume.specs.declared.Index.{Index}
 use Rattle.volume.specs.declared.IndexAnswer.the-variants as X
 use Rattle.volume.specs.Index.{volumeType, isProtein, sequences, sequenceTable, ambiguityTable, readRules, indexOf, indexAnswer}
-use Rattle.volume.specs.Tables.{sequenceLength, sequenceStart, proteinLength, twoBitLength, dnaLength, dnaEnd}
-use Rattle.volume.proofs.Lengths.{protein-length, dna-length}
+use Rattle.volume.specs.Tables.{sequenceOffset, sequenceLength, sequenceStart, proteinLength, twoBitLength, dnaLength, dnaEnd}
 use Rattle.volume.proofs.Reading.{index-read, index-first, index-refused}
 use Rattle.sequence.specs.declared.DecodeAnswer.{DecodeAnswer}
 use Rattle.sequence.specs.declared.DecodeAnswer.the-variants.{Decoded, Refused}
-use Rattle.sequence.specs.Corrections.{tableRules}
-use Rattle.sequence.specs.Sequence.{rangeEnd, isProteinByte, proteinEntryRules, proteinByteRules, proteinRules, dnaEntryRules, dnaRules, roomRules, proteinResidues, proteinCodes, dnaResidues, dnaCodes, proteinAnswer, dnaAnswer, ownRules, ownAnswer, decodeRules, decodeAnswer, decodeOutput, residuesOf, writtenBy}
-
--- ---- the room, asked last
-
-module _ (rules : List (Rule Refusal)) (most room : ℕ) (c : Checked) (e : c ≡ checkedBy rules) where
-  pub room-unasked : (r : Refusal) → c ≡ C.Refused r → Refused r ≡ verdict Refused (Decoded most) (rules ++ roomRules most room)
-  room-unasked r p = sym (refused-first rules (roomRules most room) c r e p Refused (Decoded most))
-
-  module _ (p : c ≡ C.Passed) (l : ℕ) (i : l ≡ most) where
-    pub room-short : room < l → Refused NoRoom ≡ verdict Refused (Decoded most) (rules ++ roomRules most room)
-    room-short h =
-        let k : room < most = omega arith in
-        sym (passed-first rules (roomRules most room) c e p Refused (Decoded most) ∙ rw (lt-leb most room k))
-
-    pub room-enough : l ≤ room → Decoded l ≡ verdict Refused (Decoded most) (rules ++ roomRules most room)
-    room-enough h =
-        let k : most ≤ room = omega arith in
-        sym (passed-first rules (roomRules most room) c e p Refused (Decoded most) ∙ rw (le-leb most room k, i))
-
--- ---- protein: S[i] is start, S[i+1] next
-
-module _ (index sequence : List ℕ) (i start next : ℕ) (p : start ≡ sequenceStart index i) (q : next ≡ rangeEnd index i) where
-  pub protein-long : next - 1 - start ≡ proteinLength index i
-  protein-long = protein-length index i start (next - 1) (next - 1 - start) p (ap (λ (x : ℕ). x - 1) q) refl
-
-  pub protein-written : proteinResidues sequence start (next - 1 - start) ≡ proteinCodes index sequence i
-  protein-written = rw (protein-long, p)
-
-  byte-test : every (isProteinByte sequence start) (next - 1 - start) ≡ every (isProteinByte sequence (sequenceStart index i)) (proteinLength index i)
-  byte-test = rw (protein-long, p)
-
-  module _ (c : Checked) (e : c ≡ checkedBy (proteinEntryRules index sequence i)) where
-    pub protein-refused : (r : Refusal) → c ≡ C.Refused r → C.Refused r ≡ checkedBy (proteinRules index sequence i)
-    protein-refused r f =
-        sym (refused-first (proteinEntryRules index sequence i) (proteinByteRules sequence (sequenceStart index i) (proteinLength index i)) c r e f C.Refused C.Passed)
-
-    module _ (f : c ≡ C.Passed) where
-      bytes-asked : checkedBy (proteinRules index sequence i) ≡ checkedBy (proteinByteRules sequence (sequenceStart index i) (proteinLength index i))
-      bytes-asked =
-          passed-first (proteinEntryRules index sequence i) (proteinByteRules sequence (sequenceStart index i) (proteinLength index i)) c e f C.Refused C.Passed
-
-      pub protein-bad : every (isProteinByte sequence start) (next - 1 - start) ≡ false → C.Refused BadProteinByte ≡ checkedBy (proteinRules index sequence i)
-      protein-bad t = rw (bytes-asked, ← byte-test, t)
-
-      pub protein-good : every (isProteinByte sequence start) (next - 1 - start) ≡ true → C.Passed ≡ checkedBy (proteinRules index sequence i)
-      protein-good t = rw (bytes-asked, ← byte-test, t)
-
--- ---- DNA: S[i] is start, A[i] end, S[i+1] next, and l the length of the bytes between start and end
-
-module _ (index sequence : List ℕ) (i : ℕ) where
-  -- the rules of the ambiguity range
-  abbrev rangeRules : List (Rule Refusal)
-  rangeRules = tableRules sequence (dnaEnd index i) (rangeEnd index i) (dnaLength index sequence i)
-
-  pub dna-refused : (c : Checked) → c ≡ checkedBy (dnaEntryRules index sequence i) → (r : Refusal) → c ≡ C.Refused r → C.Refused r ≡ checkedBy (dnaRules index sequence i)
-  dna-refused c e r f = sym (refused-first (dnaEntryRules index sequence i) rangeRules c r e f C.Refused C.Passed)
-
-  pub dna-entry-holds : (c : Checked) → c ≡ checkedBy (dnaRules index sequence i) → c ≡ C.Passed → AllHold (dnaEntryRules index sequence i)
-  dna-entry-holds c e f = hold-first (dnaEntryRules index sequence i) rangeRules (all-hold (dnaRules index sequence i) c e f)
-
-  module _ (start end next l : ℕ) (p : start ≡ sequenceStart index i) (b : end ≡ dnaEnd index i) (q : next ≡ rangeEnd index i) (g : l ≡ twoBitLength sequence start end) where
-    pub dna-long : l ≡ dnaLength index sequence i
-    dna-long = dna-length index sequence i start end l p b g
-
-    pub dna-passed : (c : Checked) → c ≡ checkedBy (dnaEntryRules index sequence i) → c ≡ C.Passed → (x : Checked) → x ≡ checkedBy (tableRules sequence end next l)
-        → x ≡ checkedBy (dnaRules index sequence i)
-    dna-passed c e f x t =
-        let k : tableRules sequence end next l ≡ rangeRules = rw (b, q, dna-long) in
-        t ∙ ap checkedBy k ∙ sym (passed-first (dnaEntryRules index sequence i) rangeRules c e f C.Refused C.Passed)
-
-    pub dna-written : dnaResidues sequence start end next l ≡ dnaCodes index sequence i
-    dna-written = rw (p, b, q, dna-long)
-
-    pub dna-range-holds : (c : Checked) → c ≡ checkedBy (dnaRules index sequence i) → c ≡ C.Passed → AllHold (tableRules sequence end next l)
-    dna-range-holds c e f =
-        let h : AllHold rangeRules = hold-second (dnaEntryRules index sequence i) rangeRules (all-hold (dnaRules index sequence i) c e f) in
-        rw (b, q, dna-long) h
+use Rattle.sequence.specs.declared.Entry.{Entry}
+use Rattle.sequence.specs.Corrections.{rangeRules}
+use Rattle.sequence.specs.Sequence.{rangeEnd, isProteinByte, proteinByteRules, proteinRules, dnaRules, roomRules, proteinDecoded, dnaDecoded}
+use Rattle.sequence.specs.Sequence.{ownRules, ownAnswer, decodeRules, decodeAnswer, decodeOutput, residuesOf, writtenBy}
+use Rattle.sequence.specs.Placed.{proteinEntry, proteinPlaceRules, placedProtein, placedProteinAnswer, placedProteinResidues}
+use Rattle.sequence.specs.Placed.{dnaEntry, dnaPlaceRules, placedDna, placedDnaAnswer, placedDnaResidues}
+use Rattle.sequence.proofs.Own.{protein-placed, dna-placed}
 
 -- the last byte of l residues
 pub last-byte : (sequence : List ℕ) (start end l : ℕ) → start < end → l ≡ twoBitLength sequence start end → start + l / 4 < end
 last-byte sequence start end l h e = omega arith
+
+-- ---- by the places, from the answers of the parts
+
+-- the answer where the rules after the places decide
+module _ (l room : ℕ) where
+  abbrev asked : List (Rule Refusal) → DecodeAnswer
+  asked rules = verdict Refused (Decoded l) (rules ++ roomRules l room)
+
+  room-short : room < l → Refused NoRoom ≡ verdict Refused (Decoded l) (roomRules l room)
+  room-short h = rw (lt-leb l room h)
+
+  room-enough : l ≤ room → Decoded l ≡ verdict Refused (Decoded l) (roomRules l room)
+  room-enough h = rw (le-leb l room h)
+
+-- the places of a protein passed: it lies inside the file, and the bytes and the room decide
+pub record ProteinPassed (sequence : List ℕ) (e : Entry) (room : ℕ) : Type 0 where
+  pub rises : e .start ≤ e .end
+  pub inside : e .end < length sequence
+  pub bad : every (isProteinByte sequence (e .start)) (placedProtein e) ≡ false → Refused BadProteinByte ≡ placedProteinAnswer sequence e room
+  pub short : every (isProteinByte sequence (e .start)) (placedProtein e) ≡ true → room < placedProtein e
+      → Refused NoRoom ≡ placedProteinAnswer sequence e room
+  pub enough : every (isProteinByte sequence (e .start)) (placedProtein e) ≡ true → placedProtein e ≤ room
+      → Decoded (placedProtein e) ≡ placedProteinAnswer sequence e room
+
+module _ (sequence : List ℕ) (e : Entry) (room : ℕ) (c : Checked) (told : c ≡ checkedBy (proteinPlaceRules sequence e)) where
+  abbrev bytes : List (Rule Refusal)
+  bytes = proteinByteRules sequence (e .start) (placedProtein e)
+
+  pub protein-refused : (r : Refusal) → c ≡ C.Refused r → Refused r ≡ placedProteinAnswer sequence e room
+  protein-refused r p =
+      sym (refused-first (proteinPlaceRules sequence e) (bytes ++ roomRules (placedProtein e) room) c r told p Refused (Decoded (placedProtein e)))
+
+  pub protein-passed : c ≡ C.Passed → ProteinPassed sequence e room
+  protein-passed p =
+      let (first, (rises, (inside, h))) = all-hold (proteinPlaceRules sequence e) c told p in
+      let on : asked (placedProtein e) room bytes ≡ placedProteinAnswer sequence e room =
+      sym (passed-first (proteinPlaceRules sequence e) (bytes ++ roomRules (placedProtein e) room) c told p Refused (Decoded (placedProtein e))) in
+      record {
+        rises = leb-true _ _ rises;
+        inside = ltb-true _ _ inside;
+        bad = λ t. (let d : Refused BadProteinByte ≡ asked (placedProtein e) room bytes = rw t in d) ∙ on;
+        short = λ t h. (let d : Refused NoRoom ≡ asked (placedProtein e) room bytes = rw t (room-short (placedProtein e) room h) in d) ∙ on;
+        enough = λ t h.
+            (let d : Decoded (placedProtein e) ≡ asked (placedProtein e) room bytes = rw t (room-enough (placedProtein e) room h) in d) ∙ on;
+      }
+
+-- the same for DNA, with the length that the bytes have and the answer of the ambiguity range
+pub record DnaPassed (sequence : List ℕ) (e : Entry) (room : ℕ) : Type 0 where
+  pub rises : e .start < e .end
+  pub range : e .end ≤ e .next
+  pub inside : e .next ≤ length sequence
+
+module _ (sequence : List ℕ) (e : Entry) (room : ℕ) (c : Checked) (told : c ≡ checkedBy (dnaPlaceRules sequence e)) where
+  abbrev ranges : List (Rule Refusal)
+  ranges = rangeRules sequence (e .end) (e .next) (placedDna sequence e)
+
+  pub dna-refused : (r : Refusal) → c ≡ C.Refused r → Refused r ≡ placedDnaAnswer sequence e room
+  dna-refused r p =
+      sym (refused-first (dnaPlaceRules sequence e) (ranges ++ roomRules (placedDna sequence e) room) c r told p Refused (Decoded (placedDna sequence e)))
+
+  module _ (p : c ≡ C.Passed) where
+    pub dna-passed : DnaPassed sequence e room
+    dna-passed =
+        let (rises, (range, (inside, h))) = all-hold (dnaPlaceRules sequence e) c told p in
+        record { rises = ltb-true _ _ rises; range = leb-true _ _ range; inside = leb-true _ _ inside }
+
+    on : asked (placedDna sequence e) room ranges ≡ placedDnaAnswer sequence e room
+    on =
+        sym (passed-first (dnaPlaceRules sequence e) (ranges ++ roomRules (placedDna sequence e) room) c told p Refused (Decoded (placedDna sequence e)))
+
+    module _ (l : ℕ) (g : l ≡ placedDna sequence e) (x : Checked) (asks : x ≡ checkedBy (rangeRules sequence (e .end) (e .next) l)) where
+      asks-ranges : x ≡ checkedBy ranges
+      asks-ranges = asks ∙ ap (λ (k : ℕ). checkedBy (rangeRules sequence (e .end) (e .next) k)) g
+
+      pub range-refused : (r : Refusal) → x ≡ C.Refused r → Refused r ≡ placedDnaAnswer sequence e room
+      range-refused r q =
+          sym (refused-first ranges (roomRules (placedDna sequence e) room) x r asks-ranges q Refused (Decoded (placedDna sequence e))) ∙ on
+
+      module _ (q : x ≡ C.Passed) where
+        to-room : verdict Refused (Decoded (placedDna sequence e)) (roomRules (placedDna sequence e) room) ≡ placedDnaAnswer sequence e room
+        to-room = sym (passed-first ranges (roomRules (placedDna sequence e) room) x asks-ranges q Refused (Decoded (placedDna sequence e))) ∙ on
+
+        pub range-short : room < l → Refused NoRoom ≡ placedDnaAnswer sequence e room
+        range-short h = room-short (placedDna sequence e) room (rw g at h) ∙ to-room
+
+        pub range-enough : l ≤ room → Decoded l ≡ placedDnaAnswer sequence e room
+        range-enough h = ap Decoded g ∙ room-enough (placedDna sequence e) room (rw g at h) ∙ to-room
 
 -- ---- the number and the type, where the index was read
 
@@ -136,19 +152,57 @@ module _ (index sequence : List ℕ) (i room : ℕ) where
   own-none h = rw (le-ltb i (sequences index) h)
 
   module _ (h : i < sequences index) where
-    pub own-protein : isProtein index ≡ true → proteinAnswer index sequence i room ≡ ownAnswer index sequence i room
+    pub own-protein : isProtein index ≡ true
+        → verdict Refused (Decoded (proteinLength index i)) (proteinRules index sequence i ++ roomRules (proteinLength index i) room)
+        ≡ ownAnswer index sequence i room
     own-protein t = rw (lt-ltb i (sequences index) h, t)
 
-    pub own-dna : isProtein index ≡ false → dnaAnswer index sequence i room ≡ ownAnswer index sequence i room
+    pub own-dna : isProtein index ≡ false
+        → verdict Refused (Decoded (dnaLength index sequence i)) (dnaRules index sequence i ++ roomRules (dnaLength index sequence i) room)
+        ≡ ownAnswer index sequence i room
     own-dna t = rw (lt-ltb i (sequences index) h, t)
 
-pub residues-protein : (index sequence : List ℕ) (i : ℕ) → isProtein index ≡ true → proteinCodes index sequence i ≡ residuesOf index sequence i
-unfolding residuesOf
-residues-protein index sequence i t = rw t
+    -- what decoding by the places answers
+    pub own-placed-protein : isProtein index ≡ true → (e : Entry) → e ≡ proteinEntry index i
+        → placedProteinAnswer sequence e room ≡ ownAnswer index sequence i room
+    unfolding proteinLength
+    own-placed-protein t e p =
+        let l = proteinLength index i in
+        let more = proteinByteRules sequence (sequenceStart index i) l ++ roomRules l room in
+        ap (λ (x : Entry). placedProteinAnswer sequence x room) p
+        ∙ protein-placed index sequence i Refused (verdict Refused (Decoded l) more)
+        ∙ own-protein t
 
-pub residues-dna : (index sequence : List ℕ) (i : ℕ) → isProtein index ≡ false → dnaCodes index sequence i ≡ residuesOf index sequence i
-unfolding residuesOf
-residues-dna index sequence i t = rw t
+    pub own-placed-dna : isProtein index ≡ false → nonNeg (sequenceOffset index i) ≡ true → (e : Entry) → e ≡ dnaEntry index i
+        → placedDnaAnswer sequence e room ≡ ownAnswer index sequence i room
+    unfolding dnaLength
+    own-placed-dna t n e p =
+        let l = dnaLength index sequence i in
+        let more = rangeRules sequence (dnaEnd index i) (rangeEnd index i) l ++ roomRules l room in
+        ap (λ (x : Entry). placedDnaAnswer sequence x room) p
+        ∙ dna-placed index sequence i Refused (verdict Refused (Decoded l) more) n
+        ∙ own-dna t
+
+    pub own-negative : isProtein index ≡ false → nonNeg (sequenceOffset index i) ≡ false → Refused BadOffsets ≡ ownAnswer index sequence i room
+    own-negative t n = rw (lt-ltb i (sequences index) h, t, at-least-zero (sequenceOffset index i), n)
+
+module _ (index sequence : List ℕ) (i : ℕ) where
+  pub residues-protein : isProtein index ≡ true → proteinDecoded index sequence i ≡ residuesOf index sequence i
+  unfolding residuesOf
+  residues-protein t = rw t
+
+  pub residues-dna : isProtein index ≡ false → dnaDecoded index sequence i ≡ residuesOf index sequence i
+  unfolding residuesOf
+  residues-dna t = rw t
+
+  -- what decoding by the places writes
+  pub placed-protein : isProtein index ≡ true → (e : Entry) → e ≡ proteinEntry index i → placedProteinResidues sequence e ≡ residuesOf index sequence i
+  unfolding proteinLength
+  placed-protein t e p = ap (placedProteinResidues sequence) p ∙ residues-protein t
+
+  pub placed-dna : isProtein index ≡ false → (e : Entry) → e ≡ dnaEntry index i → placedDnaResidues sequence e ≡ residuesOf index sequence i
+  unfolding dnaLength
+  placed-dna t e p = ap (placedDnaResidues sequence) p ∙ residues-dna t
 
 -- ---- the whole
 

@@ -21,10 +21,11 @@ use Rattle.volume.specs.Index.{statedType, isProtein, sequences, readRules, ind
 use Rattle.volume.specs.Tables.{sequenceStart, proteinLength, dnaEnd, dnaLength, sequenceLength, proteinOffsetRules, proteinSeparatorRules, dnaOffsetRules}
 use Rattle.volume.specs.Volume.{volumeAnswer, volumeNumber}
 use Rattle.volume.proofs.Exact as Exact
+use Rattle.volume.proofs.Named.{SizeTests, size-tests}
 use Rattle.sequence.specs.declared.DecodeAnswer.{DecodeAnswer}
 use Rattle.sequence.specs.declared.DecodeAnswer.the-variants.{Decoded, Refused}
 use Rattle.sequence.specs.Checked.{OnlyResidues}
-use Rattle.sequence.specs.Corrections.{isTable, entryWidth, entryCount, entryFits, tableRules}
+use Rattle.sequence.specs.Corrections.{isTable, entryWidth, entryCount, entryFits, rangeRules}
 use Rattle.sequence.specs.Sequence.{rangeEnd, isProteinByte, proteinEntryRules, proteinByteRules, dnaEntryRules, sequenceRules, roomRules, ownAnswer, decodeAnswer, decodeNumber}
 use Rattle.sequence.specs.Holds.{RangeHolds}
 use Rattle.sequence.proofs.Answers.{own-protein, own-dna, decode-read}
@@ -72,10 +73,13 @@ module _ (index sequence header : List ℕ) (passes : volumeNumber (volumeAnswer
       let o : AllHold (dnaOffsetRules index sequence) = rw t at p in
       dna-entries index sequence o i below
 
+  sizes : SizeTests index sequence header
+  sizes = size-tests index sequence header (parts .sizesHold)
+
   own-decides : ownAnswer index sequence i room ≡ decodeAnswer index sequence i room
   own-decides =
-      decode-read index sequence i room (leb-true _ _ (parts .sizesHold .1 .0)) (indexOf index)
-      (verdict-passes Index.Refused (Index.Read (indexOf index)) (readRules index) (parts .sizesHold .0, parts .indexHolds))
+      decode-read index sequence i room (leb-true _ _ (sizes .sequenceFits)) (indexOf index)
+      (verdict-passes Index.Refused (Index.Read (indexOf index)) (readRules index) (sizes .indexFits, parts .indexHolds))
 
   protein-only : isProtein index ≡ true → OnlyResidues index sequence i room
   protein-only t =
@@ -91,7 +95,7 @@ module _ (index sequence header : List ℕ) (passes : volumeNumber (volumeAnswer
       let l = dnaLength index sequence i in
       let place = dnaEnd index i in
       let end = rangeEnd index i in
-      let rest = tableRules sequence place end l in
+      let rest = rangeRules sequence place end l in
       let h = dna-holds t in
       let e : decodeAnswer index sequence i room ≡ verdict Refused (last l room) rest =
       sym own-decides ∙ sym (own-dna index sequence i room below t) ∙ entries-hold l room (dnaEntryRules index sequence i) rest h in
@@ -116,7 +120,14 @@ module _ (index sequence header : List ℕ) (passes : volumeNumber (volumeAnswer
   own-zero : AllHold (sequenceRules index sequence i) → sequenceLength index sequence i ≤ room → decodeNumber (decodeAnswer index sequence i room) ≡ 0
   own-zero h fits =
       parts-zero index sequence i room
-      (record { sequenceFits = parts .sizesHold .1 .0; indexFits = parts .sizesHold .0; indexHolds = parts .indexHolds; below = lt-ltb i (sequences index) below; ownHold = h; fits = le-leb _ room fits })
+      (record {
+        sequenceFits = sizes .sequenceFits;
+        indexFits = sizes .indexFits;
+        indexHolds = parts .indexHolds;
+        below = lt-ltb i (sequences index) below;
+        ownHold = h;
+        fits = le-leb _ room fits;
+      })
 
   -- With room for L bytes a protein without a byte above 27 decodes, and DNA with a good ambiguity range.
   pub checked-protein-decodes : statedType index ≡ pos 1 → proteinLength index i ≤ room
@@ -131,6 +142,6 @@ module _ (index sequence header : List ℕ) (passes : volumeNumber (volumeAnswer
       → RangeHolds sequence (dnaEnd index i) (rangeEnd index i) (dnaLength index sequence i) → decodeNumber (decodeAnswer index sequence i room) ≡ 0
   checked-dna-decodes e fits h =
       let t = Exact.dna-type index e in
-      let rest = tableRules sequence (dnaEnd index i) (rangeEnd index i) (dnaLength index sequence i) in
+      let rest = rangeRules sequence (dnaEnd index i) (rangeEnd index i) (dnaLength index sequence i) in
       let range : AllHold rest = range-test sequence (dnaEnd index i) (rangeEnd index i) (dnaLength index sequence i) h in
       own-zero (rw t (hold-append (dnaEntryRules index sequence i) rest (dna-holds t) range)) (rw t fits)

@@ -19,7 +19,7 @@ use Rattle.laws.proofs.Tests.{bool-cases, both-pass}
 use Rattle.laws.proofs.Writing.{length-written}
 use Rattle.residues.specs.Tables.{ambiguityCode}
 use Rattle.sequence.specs.declared.Correction.{Correction}
-use Rattle.sequence.specs.Corrections.{correctionAt, correctionEnd, painted, corrected, covers, correctedAt, entryFits, entryWidth, entryCount, tableRules}
+use Rattle.sequence.specs.Corrections.{correctionAt, correctionEnd, painted, corrected, covers, correctedAt, entryFits, entryWidth, entryCount, rangeRules}
 use Rattle.sequence.specs.Bases.{baseAt, twoBitResidues}
 use Rattle.sequence.specs.Sequence.{dnaResidues}
 use Rattle.sequence.proofs.Ranges.{ends-within, starts-after, table-ends}
@@ -135,7 +135,7 @@ not-covered-at sequence entries w (suc n) k base h =
 
 -- ---- the residues of a sequence whose ambiguity range keeps its rules
 
-module _ (sequence : List ℕ) (start place end l : ℕ) (h : AllHold (tableRules sequence place end l)) where
+module _ (sequence : List ℕ) (start place end l : ℕ) (h : AllHold (rangeRules sequence place end l)) where
   length-bases : length (twoBitResidues sequence start l) ≡ l
   length-bases = length-listTo (baseAt sequence start) l
 

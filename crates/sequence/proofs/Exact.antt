@@ -25,35 +25,43 @@ use Rattle.answers.proofs.Numbers.{zero-passes}
 use Rattle.residues.specs.Tables.{ambiguityCode}
 use Rattle.volume.specs.Index.{statedType, sequences, indexRules, readRules}
 use Rattle.volume.specs.Tables.{sequenceStart, dnaEnd, proteinLength, dnaLength, sequenceLength}
-use Rattle.volume.proofs.Facts.{index-parts}
+use Rattle.volume.proofs.Named.{index-tests, index-tests-back}
 use Rattle.volume.proofs.Exact.{protein-type, dna-type, fields-of, fields-test}
 use Rattle.sequence.specs.declared.DecodeAnswer.the-variants.{Decoded, Refused}
 use Rattle.sequence.specs.Bases.{basesOf, baseAt}
-use Rattle.sequence.specs.Corrections.{entryWidth, entryCount, correctionAt, correctionEnd, endBefore, entryFits, tableRules, covers, correctedAt}
-use Rattle.sequence.specs.Sequence.{rangeEnd, isProteinByte, proteinRules, dnaRules, sequenceRules, roomRules, ownRules, decodeRules, decodeAnswer, decodeNumber}
+use Rattle.sequence.specs.Corrections.{entryWidth, entryCount, correctionAt, correctionEnd, endBefore, entryFits, rangeRules}
+use Rattle.sequence.specs.Corrections.{covers, correctedAt}
+use Rattle.sequence.specs.Sequence.{rangeEnd, isProteinByte, proteinEntryRules, proteinByteRules, proteinRules, dnaEntryRules, dnaRules}
+use Rattle.sequence.specs.Sequence.{sequenceRules, roomRules, ownRules, decodeRules, decodeAnswer, decodeNumber}
 use Rattle.sequence.specs.Holds.{HasEntries, RangeHolds, ProteinSequenceHolds, DnaSequenceHolds, SequenceHolds}
+use Rattle.sequence.proofs.Named.{protein-entry-tests, protein-entry-tests-back, dna-entry-tests, dna-entry-tests-back}
+use Rattle.sequence.proofs.Named.{range-tests, range-tests-back}
 use Rattle.sequence.proofs.Ranges.{table-of, table-test, count-of, width-of, fits-both, starts-after, ends-within}
 use Rattle.sequence.proofs.Corrected.{covered-at, not-covered-at}
 
 -- ---- the ambiguity range
 
 module _ (sequence : List ℕ) (place end l : ℕ) where
-  range-of : AllHold (tableRules sequence place end l) → RangeHolds sequence place end l
+  range-of : AllHold (rangeRules sequence place end l) → RangeHolds sequence place end l
   range-of h =
       let w = entryWidth sequence place in
       let n = entryCount sequence place end in
+      let t = range-tests sequence place end l h in
       record {
         width = w;
         count = n;
-        entries = table-of sequence place end (h .0);
-        apart = λ j k. starts-after sequence (place + 4) w l n (h .1 .0) (suc j) k;
-        within = λ j k. ends-within sequence (place + 4) w l n (h .1 .0) j k;
+        entries = table-of sequence place end (t .table);
+        apart = λ j k. starts-after sequence (place + 4) w l n (t .entriesFit) (suc j) k;
+        within = λ j k. ends-within sequence (place + 4) w l n (t .entriesFit) j k;
       }
 
-  pub range-test : RangeHolds sequence place end l → AllHold (tableRules sequence place end l)
+  pub range-test : RangeHolds sequence place end l → AllHold (rangeRules sequence place end l)
   range-test r =
       let count = count-of sequence place end (r .width) (r .count) (r .entries) in
-      (table-test sequence place end (r .width) (r .count) (r .entries), (rw count (every-all (entryFits sequence (place + 4) (entryWidth sequence place) l) (r .count) fit), tt))
+      range-tests-back sequence place end l (record {
+        table = table-test sequence place end (r .width) (r .count) (r .entries);
+        entriesFit = rw count (every-all (entryFits sequence (place + 4) (entryWidth sequence place) l) (r .count) fit);
+      })
     where
       low : (j : ℕ) → j < r .count → endBefore sequence (place + 4) (r .width) j ≤ correctionAt sequence (place + 4) (r .width) j .start
       low zero k = omega arith
@@ -80,7 +88,7 @@ unfolding baseAt
 base-of sequence start k = base-bits (getD sequence (start + k / 4) 0) (k % 4) (omega arith)
 
 -- the corrections, by the entries that the range has
-module _ (sequence : List ℕ) (place end l w n : ℕ) (h : AllHold (tableRules sequence place end l)) (e : HasEntries sequence place end w n) (k base : ℕ) where
+module _ (sequence : List ℕ) (place end l w n : ℕ) (h : AllHold (rangeRules sequence place end l)) (e : HasEntries sequence place end w n) (k base : ℕ) where
   width : 0 < n → entryWidth sequence place ≡ w
   width = width-of sequence place end w n e
 
@@ -95,7 +103,7 @@ module _ (sequence : List ℕ) (place end l w n : ℕ) (h : AllHold (tableRules 
       let c = correctionAt sequence (place + 4) w j in
       let f = width (omega arith) in
       let t : covers c k ≡ true = rw (le-leb (c .start) k a, lt-ltb k (correctionEnd c) b) in
-      let m : every (entryFits sequence (place + 4) w l) n ≡ true = rw (f, count) at (h .1 .0) in
+      let m : every (entryFits sequence (place + 4) w l) n ≡ true = rw (f, count) at (range-tests sequence place end l h .entriesFit) in
       let r : correctionEnd c ≤ l = ends-within sequence (place + 4) w l n m j i in
       (omega arith, rw (f, count) (covered-at sequence (place + 4) w l n k base j m i t))
 
@@ -115,38 +123,58 @@ module _ (sequence : List ℕ) (place end l w n : ℕ) (h : AllHold (tableRules 
 module _ (index sequence : List ℕ) (i room : ℕ) where
   protein-of : AllHold (proteinRules index sequence i) → proteinLength index i ≤ room → ProteinSequenceHolds index sequence i room
   protein-of h r =
+      let bytes = proteinByteRules sequence (sequenceStart index i) (proteinLength index i) in
+      let t = protein-entry-tests index sequence i (hold-first (proteinEntryRules index sequence i) bytes h) in
+      let b = hold-second (proteinEntryRules index sequence i) bytes h in
       record {
-        first = le-test _ _ (h .0);
-        step = lt-test _ _ (h .1 .0);
-        last = le-test _ _ (h .1 .1 .0);
-        before = eqb-true _ _ (h .1 .1 .1 .0);
-        behind = eqb-true _ _ (h .1 .1 .1 .1 .0);
-        bytes = λ k l. leb-true _ _ (every-at (isProteinByte sequence (sequenceStart index i)) (proteinLength index i) k l (h .1 .1 .1 .1 .1 .0));
+        first = le-test _ _ (t .first);
+        step = lt-test _ _ (t .step);
+        last = le-test _ _ (t .last);
+        before = eqb-true _ _ (t .nulBefore);
+        behind = eqb-true _ _ (t .nulBehind);
+        bytes = λ k l. leb-true _ _ (every-at (isProteinByte sequence (sequenceStart index i)) (proteinLength index i) k l (b .0));
         fits = r;
       }
 
   protein-test : ProteinSequenceHolds index sequence i room → AllHold (proteinRules index sequence i)
-  protein-test h = (
-    test-le _ _ (h .first),
-    (test-lt _ _ (h .step), (test-le _ _ (h .last), (eq-eqb _ _ (h .before), (eq-eqb _ _ (h .behind), (every-all (isProteinByte sequence (sequenceStart index i)) (proteinLength index i) (λ k l. le-leb _ _ (h .bytes k l)), tt))))),
-  )
+  protein-test h =
+      let isByte = isProteinByte sequence (sequenceStart index i) in
+      hold-append (proteinEntryRules index sequence i) (proteinByteRules sequence (sequenceStart index i) (proteinLength index i))
+      (protein-entry-tests-back index sequence i (record {
+        first = test-le _ _ (h .first);
+        step = test-lt _ _ (h .step);
+        last = test-le _ _ (h .last);
+        nulBefore = eq-eqb _ _ (h .before);
+        nulBehind = eq-eqb _ _ (h .behind);
+      }))
+      (every-all isByte (proteinLength index i) (λ k l. le-leb _ _ (h .bytes k l)), tt)
+
+  -- the rules of the ambiguity range
+  abbrev ranges : List (Rule Refusal)
+  ranges = rangeRules sequence (dnaEnd index i) (rangeEnd index i) (dnaLength index sequence i)
 
   dna-of : AllHold (dnaRules index sequence i) → dnaLength index sequence i ≤ room → DnaSequenceHolds index sequence i room
   dna-of h r =
+      let t = dna-entry-tests index sequence i (hold-first (dnaEntryRules index sequence i) ranges h) in
       record {
-        first = le-test _ _ (h .0);
-        above = lt-test _ _ (h .1 .0);
-        below = le-test _ _ (h .1 .1 .0);
-        last = le-test _ _ (h .1 .1 .1 .0);
-        range = range-of sequence (dnaEnd index i) (rangeEnd index i) (dnaLength index sequence i) (h .1 .1 .1 .1);
+        first = le-test _ _ (t .first);
+        above = lt-test _ _ (t .bytes);
+        below = le-test _ _ (t .range);
+        last = le-test _ _ (t .last);
+        range = range-of sequence (dnaEnd index i) (rangeEnd index i) (dnaLength index sequence i) (hold-second (dnaEntryRules index sequence i) ranges h);
         fits = r;
       }
 
   dna-test : DnaSequenceHolds index sequence i room → AllHold (dnaRules index sequence i)
-  dna-test h = (
-    test-le _ _ (h .first),
-    (test-lt _ _ (h .above), (test-le _ _ (h .below), (test-le _ _ (h .last), range-test sequence (dnaEnd index i) (rangeEnd index i) (dnaLength index sequence i) (h .range)))),
-  )
+  dna-test h =
+      hold-append (dnaEntryRules index sequence i) ranges
+      (dna-entry-tests-back index sequence i (record {
+        first = test-le _ _ (h .first);
+        bytes = test-lt _ _ (h .above);
+        range = test-le _ _ (h .below);
+        last = test-le _ _ (h .last);
+      }))
+      (range-test sequence (dnaEnd index i) (rangeEnd index i) (dnaLength index sequence i) (h .range))
 
   -- the parts of the list, from the rules of the whole
   pub record DecodeParts : Type 0 where
@@ -192,7 +220,7 @@ module _ (index sequence : List ℕ) (i room : ℕ) where
       record {
         indexSize = leb-true _ _ (p .indexFits);
         sequenceSize = leb-true _ _ (p .sequenceFits);
-        fields = fields-of index (index-parts index (p .indexHolds));
+        fields = fields-of index (index-tests index (p .indexHolds));
         number = ltb-true _ _ (p .below);
         protein = λ e. let t = protein-type index e in protein-of (subst ownBy t (p .ownHold)) (leb-true _ _ (subst fitsBy t (p .fits)));
         dna = λ e. let t = dna-type index e in dna-of (subst ownBy t (p .ownHold)) (leb-true _ _ (subst fitsBy t (p .fits)));
@@ -206,7 +234,7 @@ module _ (index sequence : List ℕ) (i room : ℕ) where
           record {
             sequenceFits = le-leb _ _ (h .sequenceSize);
             indexFits = le-leb _ _ (h .indexSize);
-            indexHolds = fields-test index (h .fields);
+            indexHolds = index-tests-back index (fields-test index (h .fields));
             below = lt-ltb _ _ (h .number);
             ownHold = o;
             fits = f;

@@ -1,4 +1,5 @@
 pub mod FourBases
+pub mod Named
 pub mod Own
 pub mod Ranges
 pub mod Corrected

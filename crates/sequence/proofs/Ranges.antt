@@ -17,7 +17,7 @@ use Rattle.laws.specs.Rules.{AllHold}
 use Rattle.laws.proofs.Places.{every-at}
 use Rattle.laws.proofs.Tests.{both-pass}
 use Rattle.sequence.specs.declared.Correction.{Correction}
-use Rattle.sequence.specs.Corrections.{statedWords, isWide, isTable, entryWidth, entryCount, correctionOf, correctionAt, correctionEnd, endBefore, entryFits, tableRules}
+use Rattle.sequence.specs.Corrections.{statedWords, isWide, isTable, entryWidth, entryCount, correctionOf, correctionAt, correctionEnd, endBefore, entryFits, rangeRules}
 use Rattle.sequence.specs.Holds.{HasEntries, empty, narrow, wide}
 
 -- ---- the width of an entry
@@ -151,7 +151,7 @@ module _ (sequence : List ℕ) (entries w l n : ℕ) (e : every (entryFits seque
 
 -- ---- a range whose rules hold, with the width and the count that were told
 
-module _ (sequence : List ℕ) (place end l w n : ℕ) (h : AllHold (tableRules sequence place end l)) (e : w ≡ entryWidth sequence place)
+module _ (sequence : List ℕ) (place end l w n : ℕ) (h : AllHold (rangeRules sequence place end l)) (e : w ≡ entryWidth sequence place)
     (f : n ≡ entryCount sequence place end) where
   pub table-entries : end ≤ length sequence → (j : ℕ) → j < n → place + 4 + w * j ≤ length sequence
   table-entries = λ k. entry-in-file sequence place end w n (h .0) k e f

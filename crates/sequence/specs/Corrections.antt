@@ -68,8 +68,8 @@ entryFits sequence entries w l j =
     && leb (correctionEnd (correctionAt sequence entries w j)) l
 
 -- The rules of the range of a sequence of length l.
-abbrev pub tableRules : List ℕ → ℕ → ℕ → ℕ → List (Rule Refusal)
-tableRules sequence place end l =
+abbrev pub rangeRules : List ℕ → ℕ → ℕ → ℕ → List (Rule Refusal)
+rangeRules sequence place end l =
     ask (isTable sequence place end) BadAmbiguity
     ∷ ask (every (entryFits sequence (place + 4) (entryWidth sequence place) l) (entryCount sequence place end)) BadAmbiguity
     ∷ []

@@ -1,5 +1,6 @@
 pub mod Bases
 pub mod Corrections
 pub mod Sequence
+pub mod Placed
 pub mod Checked
 pub mod Holds

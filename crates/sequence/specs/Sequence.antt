@@ -21,7 +21,7 @@ use Rattle.volume.specs.Tables.{sequenceOffset, ambiguityOffset, sequenceStart,
 use Rattle.sequence.specs.declared.DecodeAnswer.{DecodeAnswer}
 use Rattle.sequence.specs.declared.DecodeAnswer.the-variants.{Decoded, Refused}
 use Rattle.sequence.specs.Bases.{twoBitResidues}
-use Rattle.sequence.specs.Corrections.{entryWidth, entryCount, tableRules, corrected}
+use Rattle.sequence.specs.Corrections.{entryWidth, entryCount, rangeRules, corrected}
 
 -- ---- rules
 
@@ -72,7 +72,7 @@ rangeEnd index i = toNat (sequenceOffset index (i + 1))
 
 abbrev pub dnaRules : List ℕ → List ℕ → ℕ → List (Rule Refusal)
 dnaRules index sequence i =
-    dnaEntryRules index sequence i ++ tableRules sequence (dnaEnd index i) (rangeEnd index i) (dnaLength index sequence i)
+    dnaEntryRules index sequence i ++ rangeRules sequence (dnaEnd index i) (rangeEnd index i) (dnaLength index sequence i)
 
 abbrev pub sequenceRules : List ℕ → List ℕ → ℕ → List (Rule Refusal)
 sequenceRules index sequence i = cond (isProtein index) (proteinRules index sequence i) (dnaRules index sequence i)
@@ -101,15 +101,15 @@ dnaResidues sequence start place end l =
     corrected sequence (place + 4) (entryWidth sequence place) (entryCount sequence place end) (twoBitResidues sequence start l)
 
 -- The residues of sequence i, by the type.
-abbrev pub proteinCodes : List ℕ → List ℕ → ℕ → List ℕ
-proteinCodes index sequence i = proteinResidues sequence (sequenceStart index i) (proteinLength index i)
+abbrev pub proteinDecoded : List ℕ → List ℕ → ℕ → List ℕ
+proteinDecoded index sequence i = proteinResidues sequence (sequenceStart index i) (proteinLength index i)
 
-abbrev pub dnaCodes : List ℕ → List ℕ → ℕ → List ℕ
-dnaCodes index sequence i =
+abbrev pub dnaDecoded : List ℕ → List ℕ → ℕ → List ℕ
+dnaDecoded index sequence i =
     dnaResidues sequence (sequenceStart index i) (dnaEnd index i) (rangeEnd index i) (dnaLength index sequence i)
 
 unfoldable pub residuesOf : List ℕ → List ℕ → ℕ → List ℕ
-residuesOf index sequence i = cond (isProtein index) (proteinCodes index sequence i) (dnaCodes index sequence i)
+residuesOf index sequence i = cond (isProtein index) (proteinDecoded index sequence i) (dnaDecoded index sequence i)
 
 -- ---- the answer
 
@@ -117,17 +117,9 @@ residuesOf index sequence i = cond (isProtein index) (proteinCodes index sequenc
 unfoldable pub decodeAnswer : List ℕ → List ℕ → ℕ → ℕ → DecodeAnswer
 decodeAnswer index sequence i room = verdict Refused (Decoded (sequenceLength index sequence i)) (decodeRules index sequence i room)
 
--- The answer where the rules of the index hold, and by the type where there is such a sequence.
+-- The answer where the rules of the index hold.
 abbrev pub ownAnswer : List ℕ → List ℕ → ℕ → ℕ → DecodeAnswer
 ownAnswer index sequence i room = verdict Refused (Decoded (sequenceLength index sequence i)) (ownRules index sequence i room)
-
-abbrev pub proteinAnswer : List ℕ → List ℕ → ℕ → ℕ → DecodeAnswer
-proteinAnswer index sequence i room =
-    verdict Refused (Decoded (proteinLength index i)) (proteinRules index sequence i ++ roomRules (proteinLength index i) room)
-
-abbrev pub dnaAnswer : List ℕ → List ℕ → ℕ → ℕ → DecodeAnswer
-dnaAnswer index sequence i room =
-    verdict Refused (Decoded (dnaLength index sequence i)) (dnaRules index sequence i ++ roomRules (dnaLength index sequence i) room)
 
 -- What the output holds afterwards: on success the first L bytes are the codes and the rest is unchanged; on a refusal all is unchanged.
 abbrev pub writtenBy : DecodeAnswer → List ℕ → List ℕ → List ℕ

@@ -10,7 +10,7 @@ ghost use Rattle.laws.specs.Places.{every, listTo};
 ghost use Rattle.laws.specs.Writing.{writtenAt};
 ghost use Rattle.fields.specs.Number.{big, unsignedAt};
 ghost use Rattle.answers.specs.Limits.{checkedBy};
-ghost use Rattle.sequence.specs.Corrections.{isTable, entryWidth, entryCount, correctionAt, correctionEnd, entryFits, tableRules, corrected};
+ghost use Rattle.sequence.specs.Corrections.{isTable, entryWidth, entryCount, correctionAt, correctionEnd, entryFits, rangeRules, corrected};
 
 // Whether the range from a place up to an end is empty, or a word and as many words as it says.
 fn is_table(sequence: &[u8], place: usize, end: usize) -> bool
@@ -111,7 +111,7 @@ fn entries_fit(sequence: &[u8], entries: usize, w: usize, n: usize, l: usize) ->
 // The rules of the range from a place up to an end, for a sequence of length l, 12.
 pub(crate) fn check_table(sequence: &[u8], place: usize, end: usize, l: usize) -> Checked
     requires { ⌜ (place ≤ end) × (end ≤ length (now sequence)) × (length (now sequence) ≤ 2147483647) ⌝ }
-    ensures { λ r. ⌜ r ≡ checkedBy (tableRules (now (sequence .entry)) place end l) ⌝ }
+    ensures { λ r. ⌜ r ≡ checkedBy (rangeRules (now (sequence .entry)) place end l) ⌝ }
 {
     if !is_table(sequence, place, end) {
         return Checked::Refused(Refusal::BadAmbiguity);

@@ -7,6 +7,9 @@ use answers::MOST_BYTES;
 use answers::Refusal;
 use entries::decode_dna;
 use entries::decode_protein;
+use entries::dna_entry;
+use entries::protein_entry;
+use fields::not_negative_at;
 use volume::Index;
 use volume::IndexAnswer;
 ghost use mathlib.Core.Path.{_≡_};
@@ -19,6 +22,13 @@ ghost use Rattle.sequence.specs.Sequence.{ownAnswer, residuesOf, written
 pub enum DecodeAnswer {
     Decoded(usize),
     Refused(Refusal),
+}
+
+// What a sequence's own entries in the tables state, as places: where its bytes start and end, and where those of the next start.
+pub struct Entry {
+    pub start: usize,
+    pub end: usize,
+    pub next: usize,
 }
 
 // A correction: so many residues from a start on have an ambiguity value.
@@ -39,9 +49,13 @@ fn decode_own(index: &[u8], sequence: &[u8], x: Index, number: u64, out: &mut [u
     }
     let i = number as usize;
     if x.kind == 1 {
-        return decode_protein(index, sequence, x.sequence_table, i, out);
+        return decode_protein(sequence, protein_entry(index, x, i), out);
     }
-    decode_dna(index, sequence, x.sequence_table, x.ambiguity_table, i, out)
+    let table = x.sequence_table;
+    if !not_negative_at(index, table + 4 * i) {
+        return DecodeAnswer::Refused(Refusal::BadOffsets);
+    }
+    decode_dna(sequence, dna_entry(index, x, i), out)
 }
 
 // Decodes the sequence of a number into the first bytes of the output. On a refusal the output is left as it was.

@@ -9,9 +9,9 @@ use Prim.Native.Nat.{ℕ, _+_, _-_, _≤_, _<_}
 use native.Mathlib.Omega.{arith}
 use native.Mathlib.Nat.{le-antisymm}
 use borrow.Author.Tests.{leb-true, le-leb, eqb-true, eq-eqb}
-use lib.Dec.{leb, eqb}
+use lib.Dec.{leb}
 use lib.IntN.{ℤ, pos, negsuc}
-use lib.ListN.{length, getD}
+use lib.ListN.{length}
 use lib.Signed.{nonNeg, leZ, ltZ, _≤ℤ_}
 use Rattle.laws.specs.Rules.{Rule, AllHold}
 use Rattle.laws.specs.Signed.{toNat, eqZ}
@@ -24,11 +24,18 @@ use Rattle.answers.specs.declared.Refusal.{Refusal}
 use Rattle.answers.proofs.Numbers.{zero-passes}
 use Rattle.volume.specs.declared.VolumeRecord.{VolumeRecord}
 use Rattle.volume.specs.declared.VolumeAnswer.the-variants.{Passed, Refused}
-use Rattle.volume.specs.Index.{statedType, volumeType, isType, isProtein, titleEnd, timestampEnd, timestampStart, statedSequences, sequences, mostSequences, residues, longest, tableSize, headerTable, sequenceTable, ambiguityTable, tablesEnd, titleRules, timestampRules, countRules, tableRules, indexRules}
-use Rattle.volume.specs.Tables.{notBelow, above, between, sequenceOffset, ambiguityOffset, headerOffsetRules, proteinOffsetRules, dnaOffsetRules, sequenceOffsetRules, offsetRules, proteinEnd, proteinLength, dnaLength, proteinSeparatorRules, separatorRules, totalsOf, totalRules}
+use Rattle.volume.specs.Index.{statedType, volumeType, isType, isProtein, titleEnd, timestampEnd, timestampStart, statedSequences}
+use Rattle.volume.specs.Index.{sequences, mostSequences, residues, longest, tableSize}
+use Rattle.volume.specs.Index.{headerTable, sequenceTable, ambiguityTable, tablesEnd, indexRules}
+use Rattle.volume.specs.Tables.{notBelow, above, ambiguityBetween, sequenceOffset, ambiguityOffset, proteinLength, dnaLength}
+use Rattle.volume.specs.Tables.{headerOffsetRules, proteinOffsetRules, dnaOffsetRules, sequenceOffsetRules, offsetRules}
+use Rattle.volume.specs.Tables.{proteinSeparatorRules, separatorRules, totalsOf, totalRules}
 use Rattle.volume.specs.Volume.{volumeSizeRules, volumeRules, volumeRecord, volumeAnswer, volumeNumber, volumeValues, recordValues}
 use Rattle.volume.specs.Holds.{FieldsHold, HeadersHold, TotalsHold, ProteinHolds, DnaHolds, VolumeHolds}
-use Rattle.volume.proofs.Facts.{IndexParts, index-parts}
+use Rattle.volume.proofs.Named.{TableTests, IndexTests, index-tests, index-tests-back, HeaderTests, header-tests, header-tests-back}
+use Rattle.volume.proofs.Named.{nulBehind, ProteinTests, protein-tests, protein-tests-back, DnaTests, dna-tests, dna-tests-back}
+use Rattle.volume.proofs.Named.{SeparatorTests, separator-tests, separator-tests-back, TotalTests, total-tests, total-tests-back}
+use Rattle.volume.proofs.Named.{size-tests, size-tests-back}
 
 -- ---- signed fields
 
@@ -79,24 +86,24 @@ few-test : (index : List ℕ) → nonNeg (statedSequences index) ≡ true → st
 unfolding sequences
 few-test index e h = at-most-test (statedSequences index) mostSequences e h
 
-whole-of : (index : List ℕ) → IndexParts index → length index ≡ tablesEnd index
-whole-of index p = le-antisymm (leb-true _ _ (p .tables .1 .0)) (leb-true _ _ (p .tables .0))
+whole-of : (index : List ℕ) → TableTests index → length index ≡ tablesEnd index
+whole-of index t = le-antisymm (leb-true _ _ (t .nothingAfter)) (leb-true _ _ (t .tablesThere))
 
-pub fields-of : (index : List ℕ) → IndexParts index → FieldsHold index
-fields-of index p =
-    let w = whole-of index p in
+pub fields-of : (index : List ℕ) → IndexTests index → FieldsHold index
+fields-of index t =
+    let w = whole-of index (t .tables) in
     record {
-      version = eq-test _ _ (p .title .1 .0);
-      type = type-of index (p .title .1 .1 .1 .0);
-      title = not-negative _ (p .title .1 .1 .1 .1 .1 .0);
-      timestamp = not-negative _ (p .timestamp .1 .0);
-      number = not-negative _ (p .counts .1 .0);
-      count = not-negative _ (p .counts .1 .1 .1 .1 .0);
-      longest = not-negative _ (p .counts .1 .1 .1 .1 .1 .1 .0);
-      few = few-of index (p .counts .1 .0) (leb-true _ _ (p .counts .1 .1 .0));
-      aligned = eqb-true _ _ (p .timestamp .1 .1 .1 .0);
-      proteinWhole = λ e. (let t = rw (protein-type index e) at w in omega arith);
-      dnaWhole = λ e. (let t = rw (dna-type index e) at w in omega arith);
+      version = eq-test _ _ (t .title .versionIs);
+      type = type-of index (t .title .typeIs);
+      title = not-negative _ (t .title .natural);
+      timestamp = not-negative _ (t .timestamp .natural);
+      number = not-negative _ (t .counts .numberNatural);
+      count = not-negative _ (t .counts .residuesNatural);
+      longest = not-negative _ (t .counts .longestNatural);
+      few = few-of index (t .counts .numberNatural) (leb-true _ _ (t .counts .few));
+      aligned = eqb-true _ _ (t .timestamp .aligned);
+      proteinWhole = λ e. (let k = rw (protein-type index e) at w in omega arith);
+      dnaWhole = λ e. (let k = rw (dna-type index e) at w in omega arith);
     }
 
 ends-at : (index : List ℕ) → FieldsHold index → tablesEnd index ≡ length index
@@ -110,104 +117,134 @@ reach-end index place f h = le-leb place (length index) (rw (← ends-at index f
     later true = h
     later false = omega arith
 
-pub fields-test : (index : List ℕ) → FieldsHold index → AllHold (indexRules index)
-unfolding indexRules
+pub fields-test : (index : List ℕ) → FieldsHold index → IndexTests index
 fields-test index f =
     let n = not-negative-test (statedSequences index) (f .number) in
-    let title : AllHold (titleRules index) =
-    (reach-end index 4 f (omega arith), (test-eq _ _ (f .version), (reach-end index 8 f (omega arith), (type-test index (f .type), (reach-end index 12 f (omega arith), (not-negative-test _ (f .title), (reach-end index (titleEnd index) f (omega arith), tt))))))) in
-    let timestamp : AllHold (timestampRules index) =
-    (reach-end index (timestampStart index) f (omega arith), (not-negative-test _ (f .timestamp), (reach-end index (timestampEnd index) f (omega arith), (eq-eqb _ _ (f .aligned), tt)))) in
-    let counts : AllHold (countRules index) =
-    (reach-end index (timestampEnd index + 4) f (omega arith), (n, (le-leb _ _ (few-test index n (f .few)), (reach-end index (timestampEnd index + 12) f (omega arith), (not-negative-test _ (f .count), (reach-end index (headerTable index) f (omega arith), (not-negative-test _ (f .longest), tt))))))) in
     let end = ends-at index f in
-    let tables : AllHold (tableRules index) =
-    (le-leb (tablesEnd index) (length index) (omega arith), (le-leb (length index) (tablesEnd index) (omega arith), tt)) in
-    hold-append (titleRules index) (timestampRules index ++ (countRules index ++ tableRules index)) title
-    (hold-append (timestampRules index) (countRules index ++ tableRules index) timestamp (hold-append (countRules index) (tableRules index) counts tables))
+    record {
+      title = record {
+        versionThere = reach-end index 4 f (omega arith);
+        versionIs = test-eq _ _ (f .version);
+        typeThere = reach-end index 8 f (omega arith);
+        typeIs = type-test index (f .type);
+        lengthThere = reach-end index 12 f (omega arith);
+        natural = not-negative-test _ (f .title);
+        titleThere = reach-end index (titleEnd index) f (omega arith);
+      };
+      timestamp = record {
+        lengthThere = reach-end index (timestampStart index) f (omega arith);
+        natural = not-negative-test _ (f .timestamp);
+        timestampThere = reach-end index (timestampEnd index) f (omega arith);
+        aligned = eq-eqb _ _ (f .aligned);
+      };
+      counts = record {
+        numberThere = reach-end index (timestampEnd index + 4) f (omega arith);
+        numberNatural = n;
+        few = le-leb _ _ (few-test index n (f .few));
+        residuesThere = reach-end index (timestampEnd index + 12) f (omega arith);
+        residuesNatural = not-negative-test _ (f .count);
+        longestThere = reach-end index (headerTable index) f (omega arith);
+        longestNatural = not-negative-test _ (f .longest);
+      };
+      tables = record {
+        tablesThere = le-leb (tablesEnd index) (length index) (omega arith);
+        nothingAfter = le-leb (length index) (tablesEnd index) (omega arith);
+      };
+    }
 
 -- ---- offsets
 
-headers-of : (index header : List ℕ) → AllHold (headerOffsetRules index header) → HeadersHold index header
-headers-of index header h =
+headers-of : (index header : List ℕ) → HeaderTests index header → HeadersHold index header
+headers-of index header t =
     record {
-      first = eq-test _ _ (h .0);
-      steps = λ i l. le-test _ _ (every-at (notBelow index (headerTable index)) (sequences index) i l (h .1 .0));
-      last = eq-test _ _ (h .1 .1 .0);
+      first = eq-test _ _ (t .first);
+      steps = λ i l. le-test _ _ (every-at (notBelow index (headerTable index)) (sequences index) i l (t .steps));
+      last = eq-test _ _ (t .last);
     }
 
-headers-test : (index header : List ℕ) → HeadersHold index header → AllHold (headerOffsetRules index header)
+headers-test : (index header : List ℕ) → HeadersHold index header → HeaderTests index header
 headers-test index header h =
-    (test-eq _ _ (h .first), (every-all (notBelow index (headerTable index)) (sequences index) (λ i l. test-le _ _ (h .steps i l)), (test-eq _ _ (h .last), tt)))
+    record {
+      first = test-eq _ _ (h .first);
+      steps = every-all (notBelow index (headerTable index)) (sequences index) (λ i l. test-le _ _ (h .steps i l));
+      last = test-eq _ _ (h .last);
+    }
 
 -- ---- totals
 
 module _ (index : List ℕ) (f : ℕ → ℕ) where
-  totals-of : FieldsHold index → AllHold (totalsOf index f) → TotalsHold index f
+  totals-of : FieldsHold index → TotalTests index f → TotalsHold index f
   unfolding residues longest
-  totals-of g h =
+  totals-of g t =
       record {
-        sum = ap pos (eqb-true _ _ (h .0)) ∙ sym (states-itself _ (not-negative-test _ (g .count)));
-        largest = ap pos (eqb-true _ _ (h .1 .0)) ∙ sym (states-itself _ (not-negative-test _ (g .longest)));
+        sum = ap pos (eqb-true _ _ (t .sum)) ∙ sym (states-itself _ (not-negative-test _ (g .count)));
+        largest = ap pos (eqb-true _ _ (t .largest)) ∙ sym (states-itself _ (not-negative-test _ (g .longest)));
       }
 
-  totals-test : TotalsHold index f → AllHold (totalsOf index f)
+  totals-test : TotalsHold index f → TotalTests index f
   unfolding residues longest
-  totals-test h = (eq-eqb _ _ (ap toNat (h .sum)), (eq-eqb _ _ (ap toNat (h .largest)), tt))
+  totals-test h = record { sum = eq-eqb _ _ (ap toNat (h .sum)); largest = eq-eqb _ _ (ap toNat (h .largest)) }
 
 -- ---- protein
 
 module _ (index sequence : List ℕ) where
-  nul : ℕ → Bool
-  nul k = eqb (getD sequence (proteinEnd index k) 0) 0
-
-  protein-of : FieldsHold index → AllHold (proteinOffsetRules index sequence) → AllHold (proteinSeparatorRules index sequence)
-      → AllHold (totalsOf index (proteinLength index)) → ProteinHolds index sequence
-  unfolding nul
-  protein-of f h s t =
+  protein-of : FieldsHold index → ProteinTests index sequence → SeparatorTests index sequence → TotalTests index (proteinLength index)
+      → ProteinHolds index sequence
+  protein-of f t s totals =
       record {
-        first = eq-test _ _ (h .0);
-        steps = λ i l. lt-test _ _ (every-at (above index (sequenceTable index)) (sequences index) i l (h .1 .0));
-        last = eq-test _ _ (h .1 .1 .0);
-        byteZero = eqb-true _ _ (s .0);
-        separators = λ i l. eqb-true _ _ (every-at nul (sequences index) i l (s .1 .0));
-        totals = totals-of index (proteinLength index) f t;
+        first = eq-test _ _ (t .first);
+        steps = λ i l. lt-test _ _ (every-at (above index (sequenceTable index)) (sequences index) i l (t .steps));
+        last = eq-test _ _ (t .last);
+        byteZero = eqb-true _ _ (s .byteZero);
+        separators = λ i l. eqb-true _ _ (every-at (nulBehind index sequence) (sequences index) i l (s .separators));
+        totals = totals-of index (proteinLength index) f totals;
       }
 
-  protein-test : ProteinHolds index sequence
-      → AllHold (proteinOffsetRules index sequence) × AllHold (proteinSeparatorRules index sequence) × AllHold (totalsOf index (proteinLength index))
-  unfolding nul
-  protein-test h = (
-    (test-eq _ _ (h .first), (every-all (above index (sequenceTable index)) (sequences index) (λ i l. test-lt _ _ (h .steps i l)), (test-eq _ _ (h .last), tt))),
-    (eq-eqb _ _ (h .byteZero), (every-all nul (sequences index) (λ i l. eq-eqb _ _ (h .separators i l)), tt)),
-    totals-test index (proteinLength index) (h .totals),
-  )
+  protein-test : ProteinHolds index sequence → ProteinTests index sequence
+  protein-test h =
+      record {
+        first = test-eq _ _ (h .first);
+        steps = every-all (above index (sequenceTable index)) (sequences index) (λ i l. test-lt _ _ (h .steps i l));
+        last = test-eq _ _ (h .last);
+      }
+
+  separator-test : ProteinHolds index sequence → SeparatorTests index sequence
+  separator-test h =
+      record {
+        byteZero = eq-eqb _ _ (h .byteZero);
+        separators = every-all (nulBehind index sequence) (sequences index) (λ i l. eq-eqb _ _ (h .separators i l));
+      }
 
   -- ---- DNA
 
-  step : ℕ → Bool
-  step = between index (sequenceTable index) (ambiguityTable index)
+  between : ℕ → Bool
+  between = ambiguityBetween index (sequenceTable index) (ambiguityTable index)
 
-  dna-of : FieldsHold index → AllHold (dnaOffsetRules index sequence) → AllHold (totalsOf index (dnaLength index sequence)) → DnaHolds index sequence
-  unfolding step
-  dna-of f h t =
-      let p : (i : ℕ) → i < sequences index → (ltZ (sequenceOffset index i) (ambiguityOffset index i) ≡ true) × (leZ (ambiguityOffset index i) (sequenceOffset index (i + 1)) ≡ true) =
-      λ i l. both-pass _ _ (every-at step (sequences index) i l (h .1 .0)) in
+  dna-of : FieldsHold index → DnaTests index sequence → TotalTests index (dnaLength index sequence) → DnaHolds index sequence
+  unfolding between
+  dna-of f t totals =
+      let p : (i : ℕ) → i < sequences index
+      → (ltZ (sequenceOffset index i) (ambiguityOffset index i) ≡ true)
+      × (leZ (ambiguityOffset index i) (sequenceOffset index (i + 1)) ≡ true) =
+      λ i l. both-pass _ _ (every-at between (sequences index) i l (t .steps)) in
       record {
-        first = eq-test _ _ (h .0);
+        first = eq-test _ _ (t .first);
         above = λ i l. lt-test _ _ (p i l .0);
         below = λ i l. le-test _ _ (p i l .1);
-        last = eq-test _ _ (h .1 .1 .0);
-        lastAmbiguity = eq-test _ _ (h .1 .1 .1 .0);
-        totals = totals-of index (dnaLength index sequence) f t;
+        last = eq-test _ _ (t .last);
+        lastAmbiguity = eq-test _ _ (t .lastAmbiguity);
+        totals = totals-of index (dnaLength index sequence) f totals;
       }
 
-  dna-test : DnaHolds index sequence → AllHold (dnaOffsetRules index sequence) × AllHold (totalsOf index (dnaLength index sequence))
-  unfolding step
-  dna-test h = (
-    (test-eq _ _ (h .first), (every-all step (sequences index) (λ i l. rw (test-lt _ _ (h .above i l), test-le _ _ (h .below i l))), (test-eq _ _ (h .last), (test-eq _ _ (h .lastAmbiguity), tt)))),
-    totals-test index (dnaLength index sequence) (h .totals),
-  )
+  dna-test : DnaHolds index sequence → DnaTests index sequence
+  unfolding between
+  dna-test h =
+      record {
+        first = test-eq _ _ (h .first);
+        steps = every-all between (sequences index) (λ i l. rw (test-lt _ _ (h .above i l), test-le _ _ (h .below i l)));
+        last = test-eq _ _ (h .last);
+        lastAmbiguity = test-eq _ _ (h .lastAmbiguity);
+      }
 
 -- ---- the whole volume
 
@@ -269,50 +306,58 @@ module _ (index sequence header : List ℕ) where
 
   holds-of : VolumeParts → VolumeHolds index sequence header
   holds-of p =
-      let f = fields-of index (index-parts index (p .indexHolds)) in
+      let sizes = size-tests index sequence header (p .sizesHold) in
+      let f = fields-of index (index-tests index (p .indexHolds)) in
       record {
-        indexSize = leb-true _ _ (p .sizesHold .0);
-        sequenceSize = leb-true _ _ (p .sizesHold .1 .0);
-        headerSize = leb-true _ _ (p .sizesHold .1 .1 .0);
+        indexSize = leb-true _ _ (sizes .indexFits);
+        sequenceSize = leb-true _ _ (sizes .sequenceFits);
+        headerSize = leb-true _ _ (sizes .headerFits);
         fields = f;
-        headers = headers-of index header (p .headersHold);
+        headers = headers-of index header (header-tests index header (p .headersHold));
         protein = λ e.
             let t = protein-type index e in
-            protein-of index sequence f (subst offsetsBy t (p .sequencesHold)) (subst separatorsBy t (p .separatorsHold)) (subst totalsBy t (p .totalsHold));
-        dna = λ e. let t = dna-type index e in dna-of index sequence f (subst offsetsBy t (p .sequencesHold)) (subst totalsBy t (p .totalsHold));
+            protein-of index sequence f (protein-tests index sequence (subst offsetsBy t (p .sequencesHold)))
+            (separator-tests index sequence (subst separatorsBy t (p .separatorsHold)))
+            (total-tests index (proteinLength index) (subst totalsBy t (p .totalsHold)));
+        dna = λ e.
+            let t = dna-type index e in
+            dna-of index sequence f (dna-tests index sequence (subst offsetsBy t (p .sequencesHold)))
+            (total-tests index (dnaLength index sequence) (subst totalsBy t (p .totalsHold)));
       }
 
   parts-of : VolumeHolds index sequence header → VolumeParts
   parts-of h = ⊎-elim dna-parts protein-parts (h .fields .type)
     where
-      sized : AllHold (volumeSizeRules index sequence header)
-      sized = (le-leb _ _ (h .indexSize), (le-leb _ _ (h .sequenceSize), (le-leb _ _ (h .headerSize), tt)))
+      -- what goes by the type, beside what does not
+      with-type : AllHold (sequenceOffsetRules index sequence) → AllHold (separatorRules index sequence) → AllHold (totalRules index sequence) → VolumeParts
+      with-type offsetsHold separatorsHold totalsHold =
+          record {
+            sizesHold = size-tests-back index sequence header (record {
+              indexFits = le-leb _ _ (h .indexSize);
+              sequenceFits = le-leb _ _ (h .sequenceSize);
+              headerFits = le-leb _ _ (h .headerSize);
+            });
+            indexHolds = index-tests-back index (fields-test index (h .fields));
+            headersHold = header-tests-back index header (headers-test index header (h .headers));
+            sequencesHold = offsetsHold;
+            separatorsHold = separatorsHold;
+            totalsHold = totalsHold;
+          }
 
       dna-parts : statedType index ≡ pos 0 → VolumeParts
       dna-parts e =
           let t = dna-type index e in
-          let d = dna-test index sequence (h .dna e) in
-          record {
-            sizesHold = sized;
-            indexHolds = fields-test index (h .fields);
-            headersHold = headers-test index header (h .headers);
-            sequencesHold = rw t (d .0);
-            separatorsHold = rw t tt;
-            totalsHold = rw t (d .1);
-          }
+          let d = h .dna e in
+          with-type (rw t (dna-tests-back index sequence (dna-test index sequence d))) (rw t tt)
+          (rw t (total-tests-back index (dnaLength index sequence) (totals-test index (dnaLength index sequence) (d .totals))))
 
       protein-parts : statedType index ≡ pos 1 → VolumeParts
       protein-parts e =
           let t = protein-type index e in
-          let d = protein-test index sequence (h .protein e) in
-          record {
-            sizesHold = sized;
-            indexHolds = fields-test index (h .fields);
-            headersHold = headers-test index header (h .headers);
-            sequencesHold = rw t (d .0);
-            separatorsHold = rw t (d .1);
-            totalsHold = rw t (d .2);
-          }
+          let d = h .protein e in
+          with-type (rw t (protein-tests-back index sequence (protein-test index sequence d)))
+          (rw t (separator-tests-back index sequence (separator-test index sequence d)))
+          (rw t (total-tests-back index (proteinLength index) (totals-test index (proteinLength index) (d .totals))))
 
   -- A volume that passes keeps every rule, and what is returned is its record.
   pub passed-rules : (v : VolumeRecord) → volumeAnswer index sequence header ≡ Passed v → VolumeHolds index sequence header × (v ≡ volumeRecord index)

@@ -1,6 +1,6 @@
 -- What an index that was read says, NULs at the end of a timestamp, and where the tables lie. Assumes nothing.
 use mathlib.Core.Path.{_≡_, sym, ap, _∙_}
-use mathlib.Core.List.{List, _++_}
+use mathlib.Core.List.{List}
 use Prim.Native.Nat.{ℕ, suc, _+_, _-_, _≤_, _<_}
 use mathlib.Core.Bool.{false}
 use native.Mathlib.Omega.{arith}
@@ -10,31 +10,12 @@ use lib.Seq.{getD-take, getD-drop}
 use Rattle.laws.specs.Rules.{AllHold}
 use Rattle.laws.proofs.Choices.{cond-elim}
 use Rattle.fields.specs.Number.{big, signed, signedAt, unsignedAt}
-use Rattle.laws.proofs.Rules.{hold-first, hold-second}
-use Rattle.volume.specs.Index.{isProtein, tableSize, ambiguityTable, tablesEnd, sequences, mostSequences, titleRules, timestampRules, countRules, tableRules, indexRules}
+use Rattle.volume.specs.Index.{isProtein, tableSize, ambiguityTable, tablesEnd, sequences, mostSequences, indexRules}
 use Rattle.volume.specs.Volume.{trimmedLength}
-
--- the rules of an index hold part by part
-pub record IndexParts (index : List ℕ) : Type 0 where
-  pub title : AllHold (titleRules index)
-  pub timestamp : AllHold (timestampRules index)
-  pub counts : AllHold (countRules index)
-  pub tables : AllHold (tableRules index)
-
-pub index-parts : (index : List ℕ) → AllHold (indexRules index) → IndexParts index
-unfolding indexRules
-index-parts index h =
-    let a = hold-second (titleRules index) (timestampRules index ++ (countRules index ++ tableRules index)) h in
-    let b = hold-second (timestampRules index) (countRules index ++ tableRules index) a in
-    record {
-      title = hold-first (titleRules index) (timestampRules index ++ (countRules index ++ tableRules index)) h;
-      timestamp = hold-first (timestampRules index) (countRules index ++ tableRules index) a;
-      counts = hold-first (countRules index) (tableRules index) b;
-      tables = hold-second (countRules index) (tableRules index) b;
-    }
+use Rattle.volume.proofs.Named.{index-tests}
 
 pub few-sequences : (index : List ℕ) → AllHold (indexRules index) → sequences index ≤ mostSequences
-few-sequences index h = leb-true _ _ (index-parts index h .counts .1 .1 .0)
+few-sequences index h = leb-true _ _ (index-tests index h .counts .few)
 
 -- ---- NULs at the end
 
@@ -51,7 +32,7 @@ module _ (file : List ℕ) (start n : ℕ) (h : 0 < n) where
 -- ---- the tables of an index lie inside it
 
 pub whole-tables : (index : List ℕ) → AllHold (indexRules index) → tablesEnd index ≤ length index
-whole-tables index h = leb-true _ _ (index-parts index h .tables .0)
+whole-tables index h = leb-true _ _ (index-tests index h .tables .tablesThere)
 
 -- two of them for every type
 pub two-tables : (index : List ℕ) → ambiguityTable index ≤ tablesEnd index

@@ -1,3 +1,4 @@
+pub mod Named
 pub mod Lengths
 pub mod Facts
 pub mod Exact

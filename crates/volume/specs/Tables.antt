@@ -42,8 +42,8 @@ abbrev pub above : List ℕ → ℕ → ℕ → Bool
 above index table k = ltZ (offsetAt index table k) (offsetAt index table (k + 1))
 
 -- S[k] < A[k] <= S[k+1], for the tables at two places.
-abbrev pub between : List ℕ → ℕ → ℕ → ℕ → Bool
-between index s a k = ltZ (offsetAt index s k) (offsetAt index a k) && leZ (offsetAt index a k) (offsetAt index s (k + 1))
+abbrev pub ambiguityBetween : List ℕ → ℕ → ℕ → ℕ → Bool
+ambiguityBetween index s a k = ltZ (offsetAt index s k) (offsetAt index a k) && leZ (offsetAt index a k) (offsetAt index s (k + 1))
 
 -- Headers: first 0, never falling, last equal to the header file's length.
 abbrev pub headerOffsetRules : List ℕ → List ℕ → List (Rule Refusal)
@@ -69,7 +69,7 @@ firstNucleotideOffset = 0
 abbrev pub dnaOffsetRules : List ℕ → List ℕ → List (Rule Refusal)
 dnaOffsetRules index sequence =
     ask (eqZ (sequenceOffset index 0) (pos firstNucleotideOffset)) BadOffsets
-    ∷ ask (every (between index (sequenceTable index) (ambiguityTable index)) (sequences index)) BadOffsets
+    ∷ ask (every (ambiguityBetween index (sequenceTable index) (ambiguityTable index)) (sequences index)) BadOffsets
     ∷ ask (eqZ (sequenceOffset index (sequences index)) (pos (length sequence))) BadOffsets
     ∷ ask (eqZ (ambiguityOffset index (sequences index)) (pos (length sequence))) BadOffsets
     ∷ []

@@ -1,6 +1,8 @@
 // The fixed fields of an index, each at the place that the fields before it give, and their rules.
 use answers::Checked;
 use answers::Refusal;
+use fields::natural_at;
+use fields::not_negative_at;
 ghost use mathlib.Core.Path.{_≡_};
 ghost use Prim.Native.Nat.{_<_};
 ghost use lib.IntN.{pos};
@@ -16,33 +18,14 @@ const MOST_SEQUENCES: usize = 134217728;
 // The timestamp ends at a multiple of this.
 const TIMESTAMP_ALIGNMENT: usize = 8;
 
-// Whether the integer at a place is not negative.
-pub fn not_negative_at(index: &[u8], at: usize) -> bool
-    ensures { λ r. ⌜ r ≡ nonNeg (signedAt big 4 (now (index .entry)) at) ⌝ }
-{
-    0 <= fields::be_i32(index, at)
-}
-
-// The same for eight bytes, little-endian.
+// Whether the integer of eight bytes, little-endian, at a place is not negative.
 fn not_negative_wide_at(index: &[u8], at: usize) -> bool
     ensures { λ r. ⌜ r ≡ nonNeg (signedAt little 8 (now (index .entry)) at) ⌝ }
 {
     0 <= fields::le_i64(index, at)
 }
 
-// The size or place that the integer at a place states; 0 for a negative one.
-pub fn natural_at(index: &[u8], at: usize) -> usize
-    ensures value { λ r. ⌜ r ≡ toNat (signedAt big 4 (now (index .entry)) at) ⌝ }
-    ensures small { λ r. ⌜ r < 2147483648 ⌝ }
-{
-    let n = fields::be_i32(index, at);
-    if n < 0 {
-        return 0;
-    }
-    n as usize
-}
-
-// The same for eight bytes, little-endian.
+// The size that the integer of eight bytes, little-endian, at a place states; 0 for a negative one.
 fn natural_wide_at(index: &[u8], at: usize) -> usize
     ensures { λ r. ⌜ r ≡ toNat (signedAt little 8 (now (index .entry)) at) ⌝ }
 {

@@ -10,8 +10,6 @@ use fixed::ambiguity_table;
 use fixed::check_index;
 use fixed::is_protein;
 use fixed::longest_length;
-pub use fixed::natural_at;
-pub use fixed::not_negative_at;
 use fixed::residue_count;
 use fixed::sequence_count;
 use fixed::sequence_table;
@@ -23,7 +21,7 @@ use fixed::volume_type;
 use tables::check_contents;
 use tables::minus;
 use tables::place;
-use tables::two_bit_length;
+pub use tables::two_bit_length;
 ghost use mathlib.Core.Path.{_≡_};
 ghost use Prim.Native.Nat.{_+_, _<_};
 ghost use Rattle.answers.specs.Limits.{checkedBy};
@@ -166,5 +164,5 @@ pub fn sequence_length(index: &[u8], sequence: &[u8], number: usize) -> usize
         return minus(minus(next, 1), start);
     }
     let end = place(index, ambiguity_table(index), number);
-    two_bit_length(sequence, start, end)
+    two_bit_length(sequence, start as u32, end as u32)
 }

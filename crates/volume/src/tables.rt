@@ -2,7 +2,6 @@
 use super::fixed::ambiguity_table;
 use super::fixed::is_protein;
 use super::fixed::longest_length;
-use super::fixed::natural_at;
 use super::fixed::residue_count;
 use super::fixed::sequence_count;
 use super::fixed::sequence_table;
@@ -10,6 +9,7 @@ use super::fixed::states_at;
 use super::fixed::timestamp_end;
 use answers::Checked;
 use answers::Refusal;
+use fields::natural_at;
 ghost use mathlib.Core.Path.{_≡_};
 ghost use mathlib.Core.Bool.{true};
 ghost use mathlib.Core.List.{_++_};
@@ -22,7 +22,7 @@ ghost use Rattle.laws.specs.Rules.{AllHold};
 ghost use Rattle.laws.specs.Signed.{toNat, eqZ};
 ghost use Rattle.answers.specs.Limits.{checkedBy};
 ghost use Rattle.volume.specs.Index.{sequences, tableSize, sequenceTable, ambiguityTable, tablesEnd};
-ghost use Rattle.volume.specs.Tables.{offsetAt, notBelow, above, between, headerOffsetRules, proteinOffsetRules, dnaOffsetRules, sequenceOffsetRules, offsetRules, proteinLength, twoBitLength, dnaLength, proteinSeparatorRules, separatorRules, statedRules, totalsOf, totalRules};
+ghost use Rattle.volume.specs.Tables.{offsetAt, notBelow, above, ambiguityBetween, headerOffsetRules, proteinOffsetRules, dnaOffsetRules, sequenceOffsetRules, offsetRules, proteinLength, twoBitLength, dnaLength, proteinSeparatorRules, separatorRules, statedRules, totalsOf, totalRules};
 
 // The first offset of a nucleotide file.
 const FIRST_NUCLEOTIDE_OFFSET: usize = 0;
@@ -122,9 +122,9 @@ fn rises(index: &[u8], table: usize, n: usize) -> bool
 }
 
 // Whether S[k] < A[k] <= S[k+1] for each k below n, for the tables at two places.
-fn between(index: &[u8], s: usize, a: usize, n: usize) -> bool
+fn ambiguity_between(index: &[u8], s: usize, a: usize, n: usize) -> bool
     requires { ⌜ (s + 4 * (n + 1) ≤ length (now index)) × (a + 4 * (n + 1) ≤ length (now index)) ⌝ }
-    ensures { λ r. ⌜ r ≡ every (between (now (index .entry)) s a) n ⌝ }
+    ensures { λ r. ⌜ r ≡ every (ambiguityBetween (now (index .entry)) s a) n ⌝ }
 {
     let mut low = offset(index, s, 0);
     let mut i = 0;
@@ -192,7 +192,7 @@ fn check_dna_offsets(index: &[u8], sequence: &[u8]) -> Checked
     if !offset_is(index, s, 0, FIRST_NUCLEOTIDE_OFFSET) {
         return Checked::Refused(Refusal::BadOffsets);
     }
-    if !between(index, s, a, n) {
+    if !ambiguity_between(index, s, a, n) {
         return Checked::Refused(Refusal::BadOffsets);
     }
     if !offset_is(index, s, n, sequence.len()) {
@@ -238,9 +238,10 @@ fn check_stated(index: &[u8], sum: usize, largest: usize) -> Checked
     Checked::Passed
 }
 
-// The separators and the lengths of a protein volume, 8 and 9.
+// The separators and the lengths of a protein volume, 8 and 9. The offsets rise from 1 to the file's length, so no test asks
+// for that again.
 fn check_protein_lengths(index: &[u8], sequence: &[u8]) -> Checked
-    requires { ⌜ sequences (now index) ≤ 134217728 ⌝ }
+    requires { ⌜ (sequences (now index) ≤ 134217728) × (ambiguityTable (now index) ≤ length (now index)) × AllHold (proteinOffsetRules (now index) (now sequence)) ⌝ }
     ensures { λ r. ⌜ r ≡ checkedBy (proteinSeparatorRules (now (index .entry)) (now (sequence .entry)) ++ totalsOf (now (index .entry)) (proteinLength (now (index .entry)))) ⌝ }
 {
     if fields::byte(sequence, 0) != 0 {
@@ -248,17 +249,17 @@ fn check_protein_lengths(index: &[u8], sequence: &[u8]) -> Checked
     }
     let table = sequence_table(index);
     let n = sequence_count(index);
-    let mut low = place(index, table, 0);
+    let mut low = natural_place(index, table, 0);
     let mut sum: usize = 0;
     let mut largest: usize = 0;
     let mut i = 0;
     while i < n {
-        let next = place(index, table, i + 1);
-        let end = minus(next, 1);
-        if fields::byte(sequence, end) != 0 {
+        let next = natural_place(index, table, i + 1);
+        let end = next - 1;
+        if sequence[end] != 0 {
             return Checked::Refused(Refusal::BadSeparator);
         }
-        let len = minus(end, low);
+        let len = end - low;
         sum += len;
         largest = larger(largest, len);
         low = next;
@@ -268,15 +269,14 @@ fn check_protein_lengths(index: &[u8], sequence: &[u8]) -> Checked
 }
 
 // The length of the two-bit bytes from a start up to an end.
-pub(crate) fn two_bit_length(sequence: &[u8], start: usize, end: usize) -> usize
-    requires { ⌜ end < 2147483648 ⌝ }
-    ensures value { λ r. ⌜ r ≡ twoBitLength (now (sequence .entry)) start end ⌝ }
-    ensures small { λ r. ⌜ r < 8589934592 ⌝ }
+pub fn two_bit_length(sequence: &[u8], start: u32, end: u32) -> usize
+    ensures { λ r. ⌜ r ≡ twoBitLength (now (sequence .entry)) start end ⌝ }
 {
-    4 * minus(minus(end, start), 1) + (fields::byte(sequence, minus(end, 1)) % 4) as usize
+    let last = minus(end as usize, 1);
+    4 * minus(last, start as usize) + (fields::byte(sequence, last) % 4) as usize
 }
 
-// The lengths of a DNA volume, 9.
+// The lengths of a DNA volume, 9. Each sequence has bytes inside the file, so no test asks for that again.
 fn check_dna_lengths(index: &[u8], sequence: &[u8]) -> Checked
     requires { ⌜ (sequences (now index) ≤ 134217728) × (ambiguityTable (now index) + tableSize (now index) ≤ length (now index)) × AllHold (dnaOffsetRules (now index) (now sequence)) ⌝ }
     ensures { λ r. ⌜ r ≡ checkedBy (totalsOf (now (index .entry)) (dnaLength (now (index .entry)) (now (sequence .entry)))) ⌝ }
@@ -289,8 +289,8 @@ fn check_dna_lengths(index: &[u8], sequence: &[u8]) -> Checked
     let mut i = 0;
     while i < n {
         let start = natural_place(index, s, i);
-        let end = natural_place(index, a, i);
-        let len = two_bit_length(sequence, start, end);
+        let last = natural_place(index, a, i) - 1;
+        let len = 4 * (last - start) + (sequence[last] % 4) as usize;
         sum += len;
         largest = larger(largest, len);
         i += 1;

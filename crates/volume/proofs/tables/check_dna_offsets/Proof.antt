@@ -8,7 +8,7 @@ use Rattle.laws.specs.Places.{every}
 use Rattle.laws.specs.Signed.{eqZ}
 use Rattle.laws.proofs.Told.{not-taken, not-left}
 use Rattle.volume.specs.Index.{sequences, ambiguityTable}
-use Rattle.volume.specs.Tables.{offsetAt, between, firstNucleotideOffset}
+use Rattle.volume.specs.Tables.{offsetAt, ambiguityBetween, firstNucleotideOffset}
 use Rattle.volume.proofs.Lengths.{between-at}
 use borrow.Author.Needs.{needs}
 use Rattle.volume.proofs.tables.check_dna_offsets.Statement.{statement}
@@ -29,8 +29,8 @@ offset-is-requires c κs = search needs
 returns : tie.Need-returns
 returns c = rw (not-taken (λ (t : ℕ). eqZ (offsetAt (now ((c .before .before .before .before .before .before .before .args) .index)) t 0) (pos firstNucleotideOffset)) ((c .before .before .before .before .sequence-table) .ensures .0) ((c .before .offset-is) .ensures) ((c .if1) .taken))
 
-between-requires : tie.Need-between-requires
-between-requires c κs = search needs
+ambiguity-between-requires : tie.Need-ambiguity-between-requires
+ambiguity-between-requires c κs = search needs
 
 returns-2 : tie.Need-returns-2
 returns-2 c =
@@ -38,7 +38,7 @@ returns-2 c =
     let sequence-table = c .before .before .before .before .before .before .sequence-table in
     rw (
       not-left (λ (t : ℕ). eqZ (offsetAt index t 0) (pos firstNucleotideOffset)) (sequence-table .ensures .0) ((c .before .before .before .offset-is) .ensures) ((c .before .before .if1) .left),
-      not-taken (λ (t : ℕ). every (between index t (ambiguityTable index)) (sequences index)) (sequence-table .ensures .0) ((c .before .between) .ensures ∙ between-at index (sequence-table .result) ((c .before .before .before .before .before .ambiguity-table) .ensures .0) ((c .before .before .before .before .sequence-count) .ensures .0)) ((c .if2) .taken),
+      not-taken (λ (t : ℕ). every (ambiguityBetween index t (ambiguityTable index)) (sequences index)) (sequence-table .ensures .0) ((c .before .ambiguity-between) .ensures ∙ between-at index (sequence-table .result) ((c .before .before .before .before .before .ambiguity-table) .ensures .0) ((c .before .before .before .before .sequence-count) .ensures .0)) ((c .if2) .taken),
     )
 
 offset-is-requires-2 : tie.Need-offset-is-requires-2
@@ -52,7 +52,7 @@ returns-3 c =
     let sequence-table = c .before .before .before .before .before .before .before .before .sequence-table in
     rw (
       not-left (λ (t : ℕ). eqZ (offsetAt index t 0) (pos firstNucleotideOffset)) (sequence-table .ensures .0) ((c .before .before .before .before .before .offset-is) .ensures) ((c .before .before .before .before .if1) .left),
-      not-left (λ (t : ℕ). every (between index t (ambiguityTable index)) (sequences index)) (sequence-table .ensures .0) ((c .before .before .before .between) .ensures ∙ between-at index (sequence-table .result) ((c .before .before .before .before .before .before .before .ambiguity-table) .ensures .0) (sequence-count .ensures .0)) ((c .before .before .if2) .left),
+      not-left (λ (t : ℕ). every (ambiguityBetween index t (ambiguityTable index)) (sequences index)) (sequence-table .ensures .0) ((c .before .before .before .ambiguity-between) .ensures ∙ between-at index (sequence-table .result) ((c .before .before .before .before .before .before .before .ambiguity-table) .ensures .0) (sequence-count .ensures .0)) ((c .before .before .if2) .left),
       not-taken (λ (t : ℕ). eqZ (offsetAt index t (sequences index)) (pos (length sequence))) (sequence-table .ensures .0) ((c .before .offset-is2) .ensures ∙ ap (λ (n : ℕ). eqZ (offsetAt index (sequence-table .result) n) (pos (length sequence))) (sequence-count .ensures .0)) ((c .if3) .taken),
     )
 
@@ -68,7 +68,7 @@ returns-4 c =
     let sequence-table = c .before .before .before .before .before .before .before .before .before .before .sequence-table in
     rw (
       not-left (λ (t : ℕ). eqZ (offsetAt index t 0) (pos firstNucleotideOffset)) (sequence-table .ensures .0) ((c .before .before .before .before .before .before .before .offset-is) .ensures) ((c .before .before .before .before .before .before .if1) .left),
-      not-left (λ (t : ℕ). every (between index t (ambiguityTable index)) (sequences index)) (sequence-table .ensures .0) ((c .before .before .before .before .before .between) .ensures ∙ between-at index (sequence-table .result) (ambiguity-table .ensures .0) (sequence-count .ensures .0)) ((c .before .before .before .before .if2) .left),
+      not-left (λ (t : ℕ). every (ambiguityBetween index t (ambiguityTable index)) (sequences index)) (sequence-table .ensures .0) ((c .before .before .before .before .before .ambiguity-between) .ensures ∙ between-at index (sequence-table .result) (ambiguity-table .ensures .0) (sequence-count .ensures .0)) ((c .before .before .before .before .if2) .left),
       not-left (λ (t : ℕ). eqZ (offsetAt index t (sequences index)) (pos (length sequence))) (sequence-table .ensures .0) ((c .before .before .before .offset-is2) .ensures ∙ ap (λ (n : ℕ). eqZ (offsetAt index (sequence-table .result) n) (pos (length sequence))) (sequence-count .ensures .0)) ((c .before .before .if3) .left),
       not-taken (λ (t : ℕ). eqZ (offsetAt index t (sequences index)) (pos (length sequence))) (ambiguity-table .ensures .0) ((c .before .offset-is3) .ensures ∙ ap (λ (n : ℕ). eqZ (offsetAt index (ambiguity-table .result) n) (pos (length sequence))) (sequence-count .ensures .0)) ((c .if4) .taken),
     )
@@ -82,7 +82,7 @@ returns-5 c =
     let sequence-table = c .before .before .before .before .before .before .before .before .before .before .sequence-table in
     rw (
       not-left (λ (t : ℕ). eqZ (offsetAt index t 0) (pos firstNucleotideOffset)) (sequence-table .ensures .0) ((c .before .before .before .before .before .before .before .offset-is) .ensures) ((c .before .before .before .before .before .before .if1) .left),
-      not-left (λ (t : ℕ). every (between index t (ambiguityTable index)) (sequences index)) (sequence-table .ensures .0) ((c .before .before .before .before .before .between) .ensures ∙ between-at index (sequence-table .result) (ambiguity-table .ensures .0) (sequence-count .ensures .0)) ((c .before .before .before .before .if2) .left),
+      not-left (λ (t : ℕ). every (ambiguityBetween index t (ambiguityTable index)) (sequences index)) (sequence-table .ensures .0) ((c .before .before .before .before .before .ambiguity-between) .ensures ∙ between-at index (sequence-table .result) (ambiguity-table .ensures .0) (sequence-count .ensures .0)) ((c .before .before .before .before .if2) .left),
       not-left (λ (t : ℕ). eqZ (offsetAt index t (sequences index)) (pos (length sequence))) (sequence-table .ensures .0) ((c .before .before .before .offset-is2) .ensures ∙ ap (λ (n : ℕ). eqZ (offsetAt index (sequence-table .result) n) (pos (length sequence))) (sequence-count .ensures .0)) ((c .before .before .if3) .left),
       not-left (λ (t : ℕ). eqZ (offsetAt index t (sequences index)) (pos (length sequence))) (ambiguity-table .ensures .0) ((c .before .offset-is3) .ensures ∙ ap (λ (n : ℕ). eqZ (offsetAt index (ambiguity-table .result) n) (pos (length sequence))) (sequence-count .ensures .0)) ((c .if4) .left),
     )
@@ -96,7 +96,7 @@ check-dna-offsets-spec =
     sequence-count-requires
     offset-is-requires
     returns
-    between-requires
+    ambiguity-between-requires
     returns-2
     offset-is-requires-2
     returns-3

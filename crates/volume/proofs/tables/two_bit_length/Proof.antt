@@ -1,4 +1,5 @@
 -- `volume::tables::two_bit_length`: the last byte says how many residues it holds. Assumes nothing.
+use mathlib.Core.Path.{_≡_}
 use native.Mathlib.Omega.{arith}
 use Prim.Native.Nat.{_-_}
 use borrow.Author.Needs.{needs}
@@ -14,9 +15,6 @@ minus-requires-2 c κs = search needs
 mul-result : tie.Need-mul-result
 mul-result c = search needs
 
-minus-requires-3 : tie.Need-minus-requires-3
-minus-requires-3 c κs = search needs
-
 byte-requires : tie.Need-byte-requires
 byte-requires c κs = search needs
 
@@ -27,7 +25,10 @@ add-result : tie.Need-add-result
 add-result c = search needs
 
 returns : tie.Need-returns
-returns c = (rw ((c .before .before .minus2) .ensures, (c .before .before .before .minus) .ensures, (c .byte) .ensures, (c .before .minus3) .ensures), omega arith)
+returns c =
+    let a = (c .before .before .before .before .args) in
+    let e : (c .before .minus2) .result ≡ a .end - a .start - 1 = omega arith in
+    rw (e, (c .byte) .ensures, (c .before .before .minus) .ensures)
 
 pub two-bit-length-spec : {M : Type 1} → statement M
 two-bit-length-spec =
@@ -36,7 +37,6 @@ two-bit-length-spec =
     minus-requires
     minus-requires-2
     mul-result
-    minus-requires-3
     byte-requires
     cast-result
     add-result

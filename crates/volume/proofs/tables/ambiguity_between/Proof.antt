@@ -1,4 +1,4 @@
--- `volume::tables::between`: the loop keeps S[i] and that every step passed has kept the rule. Assumes nothing.
+-- `volume::tables::ambiguity_between`: the loop keeps S[i] and that every step passed has kept the rule. Assumes nothing.
 use mathlib.Core.Path.{_≡_, refl, sym, _∙_}
 use mathlib.Core.Bool.{true, and-false}
 use Prim.Native.Nat.{_≤_, _-_}
@@ -9,13 +9,13 @@ use mir.ValLaws.{toZ-ofZ}
 use Rattle.laws.specs.Places.{every}
 use Rattle.laws.proofs.Places.{every-more, every-fails, every-done}
 use Rattle.laws.proofs.Signed as signed
-use Rattle.volume.specs.Tables.{offsetAt, between}
+use Rattle.volume.specs.Tables.{offsetAt, ambiguityBetween}
 use borrow.Author.Needs.{needs}
-use Rattle.volume.proofs.tables.between.Statement.{statement}
-use Rattle.volume.proofs.tables.between.Tie as tie
+use Rattle.volume.proofs.tables.ambiguity_between.Statement.{statement}
+use Rattle.volume.proofs.tables.ambiguity_between.Tie as tie
 
 abbrev Inv-loop : tie.InvT-loop
-Inv-loop index s a n low₀ i₀ low i = (i ≤ n) × (toZ w32 low ≡ offsetAt index s i) × (every (between index s a) i ≡ true)
+Inv-loop index s a n low₀ i₀ low i = (i ≤ n) × (toZ w32 low ≡ offsetAt index s i) × (every (ambiguityBetween index s a) i ≡ true)
 
 abbrev μ-loop : tie.MeasureT-loop
 μ-loop index s a n low₀ i₀ low i = n - i
@@ -32,7 +32,7 @@ offset-requires-2 c κs = search needs
 returns : tie.Need-returns Inv-loop μ-loop
 returns c = let l = (c .before .before .before .loop) in
     let y = toZ-ofZ w32 ((c .before .offset2) .result) (record { sfits = (c .before .offset2) .ok }) ∙ (c .before .offset2) .ensures in
-    sym (every-fails (between (now ((c .before .before .before .before .before .before .args) .index)) ((c .before .before .before .before .before .before .args) .s) ((c .before .before .before .before .before .before .args) .a)) ((c .before .before .before .before .before .before .args) .n) (l .i) (search needs) (rw (signed.not-above (l .inv .1) y ((c .if1) .taken))))
+    sym (every-fails (ambiguityBetween (now ((c .before .before .before .before .before .before .args) .index)) ((c .before .before .before .before .before .before .args) .s) ((c .before .before .before .before .before .before .args) .a)) ((c .before .before .before .before .before .before .args) .n) (l .i) (search needs) (rw (signed.not-above (l .inv .1) y ((c .if1) .taken))))
 
 add-offset : tie.Need-add-offset Inv-loop μ-loop
 add-offset c = search needs
@@ -46,7 +46,7 @@ returns-2 c =
     let l = (c .before .before .before .before .before .loop) in
     let y = toZ-ofZ w32 (offset2 .result) (record { sfits = offset2 .ok }) ∙ offset2 .ensures in
     let z = toZ-ofZ w32 ((c .before .offset3) .result) (record { sfits = (c .before .offset3) .ok }) ∙ (c .before .offset3) .ensures in
-    sym (every-fails (between (now ((c .before .before .before .before .before .before .before .before .args) .index)) ((c .before .before .before .before .before .before .before .before .args) .s) ((c .before .before .before .before .before .before .before .before .args) .a)) ((c .before .before .before .before .before .before .before .before .args) .n) (l .i) (search needs) (rw (signed.falls y z ((c .if2) .taken), and-false)))
+    sym (every-fails (ambiguityBetween (now ((c .before .before .before .before .before .before .before .before .args) .index)) ((c .before .before .before .before .before .before .before .before .args) .s) ((c .before .before .before .before .before .before .before .before .args) .a)) ((c .before .before .before .before .before .before .before .before .args) .n) (l .i) (search needs) (rw (signed.falls y z ((c .if2) .taken), and-false)))
 
 add-i : tie.Need-add-i Inv-loop μ-loop
 add-i c = search needs
@@ -60,13 +60,13 @@ loop-again c =
     let l = (c .before .before .before .before .before .loop) in
     let y = toZ-ofZ w32 (offset2 .result) (record { sfits = offset2 .ok }) ∙ offset2 .ensures in
     let z = toZ-ofZ w32 ((c .before .offset3) .result) (record { sfits = (c .before .offset3) .ok }) ∙ (c .before .offset3) .ensures in
-    (search needs, z, every-more (between (now ((c .before .before .before .before .before .before .before .before .args) .index)) ((c .before .before .before .before .before .before .before .before .args) .s) ((c .before .before .before .before .before .before .before .before .args) .a)) (l .i) (l .inv .2) (rw (signed.above (l .inv .1) y ((c .before .before .if1) .left), signed.never-falls y z ((c .if2) .left))))
+    (search needs, z, every-more (ambiguityBetween (now ((c .before .before .before .before .before .before .before .before .args) .index)) ((c .before .before .before .before .before .before .before .before .args) .s) ((c .before .before .before .before .before .before .before .before .args) .a)) (l .i) (l .inv .2) (rw (signed.above (l .inv .1) y ((c .before .before .if1) .left), signed.never-falls y z ((c .if2) .left))))
 
 returns-3 : tie.Need-returns-3 Inv-loop μ-loop
 returns-3 c = let l = (c .before .loop) in sym (every-done _ _ _ (l .inv .0) ((c .loop-test) .left) (l .inv .2))
 
-pub between-spec : {M : Type 1} → statement M
-between-spec =
+pub ambiguity-between-spec : {M : Type 1} → statement M
+ambiguity-between-spec =
     tie.close
     (tie.spec
     Inv-loop
