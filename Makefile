@@ -3,7 +3,7 @@
 # make test       the gate: all proofs from nothing, every must-fail edit, every test
 # make edits      the wrong programs that are kept aside: the prover must refuse each
 # make wrong      wrong versions of the C programs: their tests must refuse each
-# make bench      the library beside plain C and memcpy, in one run
+# make bench      the library beside the best C, unchecked C and memcpy, in one run
 # make torture    a longer comparison with the second program, over every call it finds: SEED=.. COUNT=.. (cases a call)
 # make install    PREFIX=/usr/local: header, library, programs, man pages and pkg-config file; needs no toolchain when built
 # make uninstall  takes them away again

@@ -1,13 +1,18 @@
-/* The benchmarks, each over a size. */
+/* The benchmarks: for each call, the comparison of all versions and the rows that are timed, over a size. */
 #ifndef BENCH_H
 #define BENCH_H
 
 #include <stddef.h>
-#include <stdio.h>
 
-void bench_runs(size_t residues);
-void bench_volumes(size_t sequences);
-void bench_sequences(size_t residues);
-void bench_sets(size_t sequences);
+void compare_runs(void);
+void compare_volumes(void);
+void compare_sequences(void);
+void compare_sets(void);
+
+void time_runs(size_t residues);
+void time_calls(void);
+void time_volumes(size_t sequences);
+void time_sequences(size_t residues);
+void time_sets(size_t bytes);
 
 #endif

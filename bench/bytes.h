@@ -1,10 +1,13 @@
-/* Integers out of bytes and into them, for the plain C versions. */
+/* Integers out of bytes and into them, for the C versions. */
 #ifndef BENCH_BYTES_H
 #define BENCH_BYTES_H
 
 #include <stddef.h>
 #include <stdint.h>
 #include <string.h>
+
+/* The most bytes of an input range. */
+#define MOST_BYTES 2147483647u
 
 static inline uint32_t le32(const uint8_t *p)
 {

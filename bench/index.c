@@ -1,4 +1,4 @@
-/* A volume's index in plain C: read with every check of the library, in its order, and written for the benchmarks. */
+/* A volume's index in C: read with every check of the library, in its order, and written for the benchmarks. */
 #include "index.h"
 #include "bytes.h"
 

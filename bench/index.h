@@ -1,4 +1,4 @@
-/* A volume's index, read and written in plain C. */
+/* A volume's index, read and written in C. */
 #ifndef BENCH_INDEX_H
 #define BENCH_INDEX_H
 

@@ -1,14 +1,12 @@
-/* The set check over amino and DNA sets of many sequences. */
+/* The set check over amino and DNA sets of many sequences: all versions compared, and timed. */
 #include <stdlib.h>
 #include <string.h>
 
 #include "bench.h"
-#include "bytes.h"
 #include "measure.h"
+#include "packets.h"
 #include "reference.h"
 #include "timing.h"
-
-typedef uint32_t set_call(const uint8_t *, size_t, const uint8_t *, size_t, const uint8_t *, size_t, uint8_t *, size_t);
 
 struct set {
     uint8_t *index, *metadata, *sequence;
@@ -16,47 +14,98 @@ struct set {
     set_call *check;
 };
 
+/* The longest of each field that the index states. */
+struct longest {
+    size_t name, accession, description, sequence;
+};
+
+static size_t larger(size_t a, size_t b)
+{
+    return a > b ? a : b;
+}
+
 static void put_header(uint8_t *file)
 {
     put32(file, 0xc4d3d1b1u);
     put32(file + 4, 77);
 }
 
-/* A set of n sequences of 400 residues each; DNA sequences have an N in each hundred residues. */
+/* The residues of a sequence: a protein, or a contig of 200 to 20,000 bases with an N in each hundred. */
+static size_t draw_codes(uint32_t alphabet, uint8_t *codes, uint64_t *state)
+{
+    size_t n = alphabet == AMINO ? protein_length(state) : 200 + next_random(state) % 19801;
+    for (size_t k = 0; k < n; k++) {
+        uint64_t r = next_random(state);
+        codes[k] = alphabet == AMINO ? (uint8_t)(r % 20) : r % 100 == 0 ? 15 : (uint8_t)(r >> 32 & 3);
+    }
+    return n;
+}
+
+/* A text of so many letters, and its NUL; the place behind it. */
+static size_t put_text(uint8_t *file, size_t at, size_t letters)
+{
+    memset(file + at, 'a' + (int)(letters % 26), letters);
+    file[at + letters] = 0;
+    return at + letters + 1;
+}
+
+/* A metadata record: a name of 6 to 13 letters, mostly an accession of 6 to 10, a description of up to 95. */
+static size_t put_record(uint8_t *file, size_t at, struct longest *most, uint64_t *state)
+{
+    uint64_t r = next_random(state);
+    size_t name = 6 + (r & 7), accession = r >> 3 & 3 ? 6 + (r >> 5) % 5 : 0, description = (r >> 32) % 96;
+    at = put_text(file, at, name);
+    at = put_text(file, at, accession);
+    at = put_text(file, at, description);
+    put32(file + at, r >> 60 ? 9606 : 0xffffffffu);
+    most->name = larger(most->name, name);
+    most->accession = larger(most->accession, accession);
+    most->description = larger(most->description, description);
+    return at + 4;
+}
+
+static void put_index_fields(struct set *s, uint32_t alphabet, const struct longest *most, size_t n, size_t residues)
+{
+    put32(s->index + 8, alphabet);
+    put32(s->index + 12, 0);
+    put32(s->index + 16, (uint32_t)most->name);
+    put32(s->index + 20, (uint32_t)most->accession);
+    put32(s->index + 24, (uint32_t)most->description);
+    put64(s->index + 28, most->sequence);
+    put64(s->index + 36, n);
+    put64(s->index + 44, residues);
+}
+
+/* A set of n sequences. */
 static struct set make_set(uint32_t alphabet, size_t n)
 {
-    enum { RESIDUES = 400, NAME = 8 };
     struct set s;
-    size_t record = NAME + 1 + 1 + 1 + 4, at = 0;
-    uint8_t codes[RESIDUES], results[16];
+    struct longest most = {0, 0, 0, 0};
+    size_t at = 0, behind = 8, residues = 0, longest_run = alphabet == AMINO ? 500 : 3500;
+    uint8_t *codes = touched(20001), results[16];
     uint64_t state = 23;
     s.index_len = 52 + 16 * n;
-    s.metadata_len = 8 + record * n;
     s.index = touched(s.index_len);
-    s.metadata = touched(s.metadata_len);
-    s.sequence = touched(8 + 4 * n * (RESIDUES / 6 + 2));
+    s.metadata = touched(8 + 130 * n);
+    s.sequence = malloc(8 + 4 * n * longest_run); /* what is used of it, packing touches */
+    must(s.sequence != NULL, "memory");
     put_header(s.index);
     put_header(s.metadata);
     put_header(s.sequence);
     for (size_t i = 0; i < n; i++) {
-        for (size_t k = 0; k < RESIDUES; k++)
-            codes[k] = alphabet == 3 ? (uint8_t)(next_random(&state) % 20) : k % 100 == 50 ? 15 : (uint8_t)(next_random(&state) & 3);
-        must_agree(c_pack(alphabet, codes, RESIDUES, s.sequence + 8 + 4 * at, 4 * (RESIDUES / 6 + 2), 0, results, 16) == 0, "packing a set");
+        size_t length = draw_codes(alphabet, codes, &state);
+        must(c_pack(alphabet, codes, length, s.sequence + 8 + 4 * at, 4 * longest_run, 0, results, 16) == 0, "packing a set");
         at += le64(results);
-        uint8_t *m = s.metadata + 8 + record * i;
-        memset(m, 'n', NAME);
-        memset(m + NAME, 0, 3);
-        put32(m + NAME + 3, 9606);
-        put64(s.index + 52 + 16 * i, record * (i + 1) - 1);
+        residues += length;
+        most.sequence = larger(most.sequence, length);
+        behind = put_record(s.metadata, behind, &most, &state);
+        put64(s.index + 52 + 16 * i, behind - 9);
         put64(s.index + 60 + 16 * i, at - 1);
     }
+    s.metadata_len = behind;
     s.sequence_len = 8 + 4 * at;
-    put32(s.index + 8, alphabet);
-    memset(s.index + 12, 0, 40);
-    put32(s.index + 16, n > 0 ? NAME : 0);
-    put64(s.index + 28, n > 0 ? RESIDUES : 0);
-    put64(s.index + 36, n);
-    put64(s.index + 44, RESIDUES * n);
+    put_index_fields(&s, alphabet, &most, n, residues);
+    free(codes);
     return s;
 }
 
@@ -71,39 +120,81 @@ static void check_once(void *context)
 {
     struct set *s = context;
     uint8_t results[80];
-    must_agree(s->check(s->index, s->index_len, s->metadata, s->metadata_len, s->sequence, s->sequence_len, results, 80) == 0,
-               "the set is refused");
+    must(s->check(s->index, s->index_len, s->metadata, s->metadata_len, s->sequence, s->sequence_len, results, 80) == 0, "a set");
 }
 
-/* Both checks answer alike with one byte of a file changed. */
+/* All checks answer alike and leave the same results. */
+static void agree_set(const struct set *s, size_t results_len, const char *what)
+{
+    static set_call *const checks[3] = {gull_time_check_set, c_check_set, plain_check_set};
+    uint8_t results[3][80];
+    uint32_t answer[3];
+    memset(results, 9, sizeof results);
+    for (int k = 0; k < 3; k++)
+        answer[k] = checks[k](s->index, s->index_len, s->metadata, s->metadata_len, s->sequence, s->sequence_len, results[k], results_len);
+    agree(answer[0] == answer[1] && answer[0] == answer[2] && memcmp(results[0], results[1], 80) == 0 &&
+              memcmp(results[0], results[2], 80) == 0,
+          what);
+}
+
+/* The same with a byte of a file changed, a file of another length, or the results range short. */
 static void agree_damaged(struct set *s, int times)
 {
     uint64_t state = 29;
-    uint8_t *file[3] = {s->index, s->metadata, s->sequence}, results[2][80];
-    size_t len[3] = {s->index_len, s->metadata_len, s->sequence_len};
+    struct set whole = *s;
     for (int i = 0; i < times; i++) {
-        size_t k = next_random(&state) % 3;
-        uint8_t *at = file[k] + next_random(&state) % len[k], was = *at;
-        *at ^= (uint8_t)(1u << next_random(&state) % 8);
-        memset(results, 9, sizeof results);
-        uint32_t x = gull_time_check_set(file[0], len[0], file[1], len[1], file[2], len[2], results[0], 80);
-        uint32_t y = c_check_set(file[0], len[0], file[1], len[1], file[2], len[2], results[1], 80);
-        must_agree(x == y && memcmp(results[0], results[1], 80) == 0, "the set check");
+        uint8_t *file[3] = {s->index, s->metadata, s->sequence};
+        size_t *len[3] = {&s->index_len, &s->metadata_len, &s->sequence_len}, k = next_random(&state) % 3;
+        size_t part = next_random(&state) % 4 == 0 && *len[k] > 60 ? 60 : *len[k];
+        uint8_t *at = file[k] + next_random(&state) % part, was = *at;
+        *at = next_random(&state) % 4 ? *at ^ (uint8_t)(1u << next_random(&state) % 8) : (uint8_t)(next_random(&state) % 34);
+        if (next_random(&state) % 16 == 0)
+            *len[k] = next_random(&state) % 2 ? *len[k] - 4 : next_random(&state) % *len[k];
+        if (next_random(&state) % 64 == 0)
+            *len[k] = (size_t)MOST_BYTES + 1;
+        if (next_random(&state) % 32 == 0)
+            s->index_len++; /* touched memory has a byte more */
+        agree_set(s, next_random(&state) % 16 ? 80 : 79, "a damaged set");
         *at = was;
+        *s = whole;
     }
 }
 
-void bench_sets(size_t n)
+/* The same with an end that is the one before it, or one more or less. */
+static void agree_near(struct set *s, size_t n)
 {
-    for (uint32_t alphabet = 2; alphabet <= 3; alphabet++) {
-        struct set small = make_set(alphabet, 20);
-        agree_damaged(&small, 1000);
-        free_set(&small);
-        struct set ours = make_set(alphabet, n), plain = ours;
+    for (size_t k = 0; k < 2 * n; k++) {
+        uint8_t *at = s->index + 52 + 8 * k;
+        uint64_t was = le64(at), before = k < 2 ? UINT64_MAX : le64(at - 16);
+        for (uint64_t more = 0; more < 3; more++) {
+            put64(at, before + more - 1);
+            agree_set(s, 80, "a set with an end near another");
+        }
+        put64(at, was);
+    }
+}
+
+void compare_sets(void)
+{
+    for (uint32_t alphabet = 1; alphabet <= AMINO; alphabet++)
+        for (size_t n = 0; n < 50; n = 3 * n + 1) {
+            struct set s = make_set(alphabet, n);
+            agree_set(&s, 80, "a good set");
+            agree_damaged(&s, 500);
+            agree_near(&s, n);
+            free_set(&s);
+        }
+}
+
+void time_sets(size_t bytes)
+{
+    for (uint32_t alphabet = 2; alphabet <= AMINO; alphabet++) {
+        struct set ours = make_set(alphabet, bytes / (alphabet == AMINO ? 237 : 3130)), best = ours, plain = ours;
         ours.check = gull_time_check_set;
-        plain.check = c_check_set;
-        compare_times(alphabet == 3 ? "check amino set, sequence file" : "check DNA set with 1% N", ours.sequence_len,
-                      (struct work){check_once, &ours}, (struct work){check_once, &plain});
+        best.check = c_check_set;
+        plain.check = plain_check_set;
+        compare_times(alphabet == AMINO ? "check amino set, of its packets" : "check DNA set with 1% N, of packets", ours.sequence_len,
+                      (struct versions){{check_once, &ours}, {check_once, &best}, {check_once, &plain}});
         free_set(&ours);
     }
 }

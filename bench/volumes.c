@@ -1,63 +1,84 @@
-/* The volume check over protein and DNA volumes of many sequences. */
+/* The volume check over protein and DNA volumes of many sequences: both versions compared, and timed. */
+#include "volumes.h"
+
 #include <stdlib.h>
 #include <string.h>
 
 #include "../include/gullcordage.h"
 #include "bench.h"
-#include "bytes.h"
 #include "index.h"
 #include "measure.h"
-#include "reference.h"
 
-typedef uint32_t check_call(const uint8_t *, size_t, const uint8_t *, size_t, const uint8_t *, size_t, uint8_t *, size_t);
+#define HEADER_RECORD 90 /* bytes; no check reads them */
 
-struct volume {
-    uint8_t *index, *sequence, *header;
-    size_t index_len, sequence_len, header_len;
-    check_call *check;
-};
-
-/* A volume of n sequences of up to `most` residues, without corrections. */
-static struct volume make_volume(uint32_t type, size_t n, size_t most)
+/* One sequence of residues that are no matter; its end. */
+static size_t put_protein(uint8_t *sequence, size_t at, size_t length)
 {
-    struct volume v;
-    size_t table = 4 * (n + 1);
-    v.index_len = 40 + (type == 1 ? 2 : 3) * table;
-    v.index = touched(v.index_len);
-    v.sequence = touched(1 + n * (most + 1));
-    v.header_len = 2 * n;
-    v.header = touched(v.header_len);
-    uint8_t *headers = v.index + 40, *sequences = headers + table, *ambiguities = sequences + table;
-    uint64_t state = 3, count = 0, longest = 0;
+    memset(sequence + at, 1 + (int)(length % 20), length);
+    sequence[at + length] = 0;
+    return at + length + 1;
+}
+
+static size_t put_dna(uint8_t *sequence, size_t at, size_t length)
+{
+    memset(sequence + at, (int)(length % 251), length / 4);
+    sequence[at + length / 4] = (uint8_t)(length % 4);
+    return at + length / 4 + 1;
+}
+
+/* A correction of one residue, N. */
+static size_t put_correction(uint8_t *sequence, size_t at)
+{
+    put_be(sequence + at, 1);
+    put_be(sequence + at + 4, 0xf0000000u);
+    return at + 8;
+}
+
+/* The bytes of n sequences, written where `v` has a sequence file, and their offsets. */
+static void put_sequences(struct volume *v, uint32_t type, uint8_t *headers)
+{
+    uint8_t *sequences = headers + 4 * (v->sequences + 1), *ambiguities = sequences + 4 * (v->sequences + 1);
+    uint64_t state = 3, longest = 0;
     size_t at = type;
-    v.sequence[0] = 0;
-    for (size_t i = 0; i < n; i++) {
-        size_t length = next_random(&state) % (most + 1);
-        put_be(headers + 4 * i, (uint32_t)(2 * i));
+    v->residues = 0;
+    v->sequence[0] = 0;
+    for (size_t i = 0; i < v->sequences; i++) {
+        size_t length = type == 1 ? protein_length(&state) : 100 + next_random(&state) % 1001;
+        put_be(headers + 4 * i, (uint32_t)(HEADER_RECORD * i));
         put_be(sequences + 4 * i, (uint32_t)at);
-        if (type == 1) {
-            memset(v.sequence + at, 1 + (int)(length % 20), length);
-            at += length;
-            v.sequence[at++] = 0;
-        } else {
-            for (size_t k = 0; k < length / 4; k++)
-                v.sequence[at++] = (uint8_t)next_random(&state);
-            v.sequence[at++] = (uint8_t)(length % 4);
+        at = type == 1 ? put_protein(v->sequence, at, length) : put_dna(v->sequence, at, length);
+        if (type == 0)
             put_be(ambiguities + 4 * i, (uint32_t)at);
-        }
-        count += length;
+        if (type == 0 && i % 8 == 0)
+            at = put_correction(v->sequence, at);
+        v->residues += length;
         longest = length > longest ? length : longest;
     }
-    put_be(headers + 4 * n, (uint32_t)(2 * n));
-    put_be(sequences + 4 * n, (uint32_t)at);
+    v->sequence_len = at;
+    put_be(headers + 4 * v->sequences, (uint32_t)v->header_len);
+    put_be(sequences + 4 * v->sequences, (uint32_t)at);
     if (type == 0)
-        put_be(ambiguities + 4 * n, (uint32_t)at);
-    v.sequence_len = at;
-    put_index(v.index, type, n, count, longest);
+        put_be(ambiguities + 4 * v->sequences, (uint32_t)at);
+    put_index(v->index, type, v->sequences, v->residues, longest);
+}
+
+struct volume make_volume(uint32_t type, size_t n)
+{
+    struct volume v = {.sequences = n, .header_len = HEADER_RECORD * n};
+    size_t room = 4096;
+    uint64_t state = 3;
+    for (size_t i = 0; i < n; i++) /* the lengths that will be drawn */
+        room += type == 1 ? protein_length(&state) + 1 : (100 + next_random(&state) % 1001) / 4 + 9;
+    v.index_len = 40 + (type == 1 ? 2 : 3) * 4 * (n + 1);
+    v.index = touched(v.index_len);
+    v.sequence = touched(room);
+    v.header = malloc(v.header_len + 1);
+    must(v.header != NULL, "memory");
+    put_sequences(&v, type, v.index + 40);
     return v;
 }
 
-static void free_volume(struct volume *v)
+void free_volume(struct volume *v)
 {
     free(v->index);
     free(v->sequence);
@@ -68,38 +89,83 @@ static void check_once(void *context)
 {
     struct volume *v = context;
     uint8_t results[64];
-    must_agree(v->check(v->index, v->index_len, v->sequence, v->sequence_len, v->header, v->header_len, results, 64) == 0,
-               "the volume is refused");
+    must(v->check(v->index, v->index_len, v->sequence, v->sequence_len, v->header, v->header_len, results, 64) == 0, "a volume");
 }
 
-/* Both checks answer alike with one byte of the index or sequence file changed. */
+/* Both checks answer alike and leave the same results. */
+static void agree_volume(const struct volume *v, size_t results_len, const char *what)
+{
+    uint8_t results[2][64];
+    memset(results, 9, sizeof results);
+    uint32_t x =
+        gull_check_volume(v->index, v->index_len, v->sequence, v->sequence_len, v->header, v->header_len, results[0], results_len);
+    uint32_t y = c_check_volume(v->index, v->index_len, v->sequence, v->sequence_len, v->header, v->header_len, results[1], results_len);
+    agree(x == y && memcmp(results[0], results[1], 64) == 0, what);
+}
+
+/* The same with a bit of the index or of the sequence file changed, a file cut, or the results range short. */
 static void agree_damaged(struct volume *v, int times)
 {
     uint64_t state = 5;
+    struct volume whole = *v;
     for (int i = 0; i < times; i++) {
-        int in_index = next_random(&state) % 4 != 0;
-        uint8_t *at = in_index ? v->index + next_random(&state) % v->index_len : v->sequence + next_random(&state) % v->sequence_len;
-        uint8_t was = *at, results[2][64];
-        memset(results, 9, sizeof results);
-        *at ^= (uint8_t)(1u << next_random(&state) % 8);
-        uint32_t x = gull_check_volume(v->index, v->index_len, v->sequence, v->sequence_len, v->header, v->header_len, results[0], 64);
-        uint32_t y = c_check_volume(v->index, v->index_len, v->sequence, v->sequence_len, v->header, v->header_len, results[1], 64);
-        must_agree(x == y && memcmp(results[0], results[1], 64) == 0, "the volume check");
+        uint64_t where = next_random(&state) % 8, r = next_random(&state);
+        uint8_t *at = where == 0 ? v->sequence + r % v->sequence_len : v->index + r % (where < 4 ? 48 : v->index_len), was = *at;
+        if (next_random(&state) % 8 != 0)
+            *at ^= (uint8_t)(1u << next_random(&state) % 8);
+        if (next_random(&state) % 16 == 0)
+            v->index_len = next_random(&state) % 2 ? v->index_len - 4 : next_random(&state) % v->index_len;
+        if (next_random(&state) % 16 == 0)
+            v->sequence_len -= next_random(&state) % 2 ? 1 : next_random(&state) % v->sequence_len;
+        if (next_random(&state) % 16 == 0)
+            v->header_len = next_random(&state) % 2 ? v->header_len - 1 : (size_t)GULL_MOST_BYTES + 1;
+        agree_volume(v, next_random(&state) % 16 ? 64 : 63, "a damaged volume");
         *at = was;
+        *v = whole;
     }
 }
 
-void bench_volumes(size_t n)
+/* The same with an offset that is another one, or one more or less: the one before it, or the one beside it in the next table. */
+static void agree_near(struct volume *v, int times)
 {
-    struct volume small[2] = {make_volume(1, 300, 60), make_volume(0, 300, 60)};
+    uint64_t state = 37;
+    size_t table = v->sequences + 1, words = (v->index_len - 40) / 4;
+    for (int i = 0; i < times; i++) {
+        size_t k = 1 + next_random(&state) % (words - 1), from = k - 1, way = next_random(&state) % 3;
+        if (way == 1 && k >= table)
+            from = k - table;
+        if (way == 2 && k + table - 1 < words)
+            from = k + table - 1;
+        uint8_t *at = v->index + 40 + 4 * k;
+        uint32_t was = be32(at);
+        put_be(at, be32(v->index + 40 + 4 * from) + (uint32_t)(next_random(&state) % 3) - 1);
+        agree_volume(v, 64, "a volume with an offset near another");
+        put_be(at, was);
+    }
+}
+
+void compare_volumes(void)
+{
+    for (uint32_t type = 0; type < 2; type++)
+        for (size_t n = 0; n < 1000; n = 3 * n + 1) {
+            struct volume v = make_volume(type, n);
+            agree_volume(&v, 64, "a good volume");
+            if (n > 0) {
+                agree_damaged(&v, 500);
+                agree_near(&v, 200);
+            }
+            free_volume(&v);
+        }
+}
+
+void time_volumes(size_t n)
+{
     for (uint32_t type = 0; type < 2; type++) {
-        agree_damaged(&small[type], 1000);
-        free_volume(&small[type]);
-        struct volume ours = make_volume(type, n, 60), plain = ours;
+        struct volume ours = make_volume(type, n), best = ours;
         ours.check = gull_check_volume;
-        plain.check = c_check_volume;
-        compare_times(type == 1 ? "check protein volume, per index" : "check DNA volume, per index", ours.index_len,
-                      (struct work){check_once, &ours}, (struct work){check_once, &plain});
+        best.check = c_check_volume;
+        compare_times(type == 1 ? "check protein volume, of its index" : "check DNA volume, of its index", ours.index_len,
+                      (struct versions){.ours = {check_once, &ours}, .best = {check_once, &best}});
         free_volume(&ours);
     }
 }

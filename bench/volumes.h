@@ -1,0 +1,20 @@
+/* Made-up volumes. */
+#ifndef BENCH_VOLUMES_H
+#define BENCH_VOLUMES_H
+
+#include "reference.h"
+
+struct volume {
+    uint8_t *index, *sequence, *header;
+    size_t index_len, sequence_len, header_len, sequences, residues;
+    volume_call *check;
+    decode_call *decode;
+    uint8_t *out;
+};
+
+/* A volume of n sequences: proteins as databases have them (type 1), or DNA of 100 to 1,100 bases (type 0), one in eight with a
+ * correction. */
+struct volume make_volume(uint32_t type, size_t n);
+void free_volume(struct volume *v);
+
+#endif
