@@ -26,7 +26,7 @@ use Rattle.elements.specs.declared.SpanAnswer.the-variants as S
 use Rattle.elements.specs.declared.IntegerAnswer.{IntegerAnswer}
 use Rattle.elements.specs.declared.IntegerAnswer.the-variants as I
 use Rattle.elements.specs.Grammar.{inRange}
-use Rattle.elements.specs.Parts.{span, bytesOf, partAt, integerAllowed, integerPart, longPart, textPart, Within, integerIn, integerAt, textAt}
+use Rattle.elements.specs.Parts.{span, bytesOf, partAt, integerAllowed, integerPart, longPart, textPart, Within, integerOf, integerIn, integerAt, textAt}
 use Rattle.elements.specs.Statement.{IntegerBytes}
 
 pub bytes-length : (s : List ℕ) (at n : ℕ) → at + n ≤ length s → length (bytesOf s at n) ≡ n
@@ -34,9 +34,14 @@ bytes-length s at n h = length-take-le n (drop at s) (rw length-drop (omega arit
 
 -- ---- allowed integers
 
-pub allowed-is : (bytes : List ℕ) (n : ℕ) → length bytes ≡ n → (leb 1 n && leb n 8) ≡ integerAllowed bytes
-unfolding integerAllowed
-allowed-is bytes n e = rw e
+module _ (bytes : List ℕ) (n : ℕ) (e : length bytes ≡ n) where
+  pub allowed-none : n < 1 → false ≡ integerAllowed bytes
+  unfolding integerAllowed
+  allowed-none h = rw (e, lt-leb _ _ h)
+
+  pub allowed-some : 1 ≤ n → leb n 8 ≡ integerAllowed bytes
+  unfolding integerAllowed
+  allowed-some h = rw (e, le-leb _ _ h)
 
 pub allowed-size : (bytes : List ℕ) → integerAllowed bytes ≡ true → (1 ≤ length bytes) × (length bytes ≤ 8)
 unfolding integerAllowed
@@ -140,23 +145,55 @@ full-more i x e = let p : 256 ^ (i + 1) ≡ 256 ^ i * 256 = ap (λ (k : ℕ). 25
 even : (n : ℕ) → 1 ≤ n → (k : ℕ) × (256 ^ n ≡ k * 256)
 even n h = let e : n ≡ suc (n - 1) = omega arith in (256 ^ (n - 1), ap (λ (x : ℕ). 256 ^ x) e ∙ pow-suc 256 (n - 1))
 
--- two's complement of n bytes: the upper half of the numbers are the negative ones
-module _ (n x most : ℕ) (some : 1 ≤ n) (m : most + 1 ≡ 256 ^ n) (top : most ≤ 18446744073709551615) where
-  half : 256 ^ n / 2 ≡ most / 2 + 1
-  half = let k = even n some in omega arith
+-- x is the number of the n bytes at a place, and most the largest of n bytes
+pub record Counted (s : List ℕ) (at n x most : ℕ) : Type 0 where
+  pub some : 1 ≤ n
+  pub few : n ≤ 8
+  pub room : at + n ≤ length s
+  pub small : (i : ℕ) → getD s i 0 < 256
+  pub is : x ≡ value 8 0 (bytesOf s at n)
+  pub top : most + 1 ≡ 256 ^ n
 
-  pub signed-low : x ≤ most / 2 → toZ w64 x ≡ signed n x
+byte-power : (n : ℕ) → 2 ^ (8 * n) ≡ 256 ^ n
+byte-power zero = refl
+byte-power (suc n) =
+    let e : 8 * suc n ≡ 8 * n + 8 = mul-suc 8 n in
+    ap (λ (k : ℕ). 2 ^ k) e ∙ pow-add 2 (8 * n) 8 ∙ ap (λ (k : ℕ). k * 256) (byte-power n) ∙ sym (pow-suc 256 n)
+
+module _ {s : List ℕ} {at n x most : ℕ} (c : Counted s at n x most) where
+  -- a number is at most the largest of as many bytes
+  pub value-small : x ≤ most
+  value-small =
+      let l : length (bytesOf s at n) ≡ n = bytes-length s at n (c .room) in
+      let b : allBelow 256 (bytesOf s at n) ≡ true = below-take 256 n (drop at s) (below-drop 256 at s (below-all 256 s (λ i _. c .small i))) in
+      let v : value 8 0 (bytesOf s at n) < 2 ^ (8 * length (bytesOf s at n)) = value-below 8 (bytesOf s at n) b in
+      let w : 2 ^ (8 * n) ≡ 256 ^ n = byte-power n in
+      let u : value 8 0 (bytesOf s at n) < 2 ^ (8 * n) = rw l at v in
+      omega (arith, c .is, c .top)
+
+  pub most-fits : most ≤ 18446744073709551615
+  most-fits = let p : 256 ^ n ≤ 256 ^ 8 = pow-le-pow-right {n = 256} (omega arith) {i = n} {j = 8} (c .few) in omega (arith, c .top)
+
+  half : 256 ^ n / 2 ≡ most / 2 + 1
+  half = let k = even n (c .some) in omega (arith, c .top)
+
+  -- two's complement of n bytes: the upper half of the numbers are the negative ones
+  pub signed-low : x ≤ most / 2 → toZ w64 x ≡ integerOf s at n
   signed-low h =
       let l : x < 256 ^ n / 2 = omega (arith, half) in
-      toZ-pos w64 x (omega arith) ∙ rw (lt-ltb _ _ l)
+      let e : toZ w64 x ≡ signed n x = toZ-pos w64 x (omega (arith, most-fits)) ∙ rw (lt-ltb _ _ l) in
+      e ∙ ap (signed n) (c .is)
 
-  pub signed-high : most / 2 < x → x ≤ most → toZ w64 (18446744073709551615 - (most - x)) ≡ signed n x
-  signed-high h u =
+  pub signed-high : most / 2 < x → toZ w64 (18446744073709551615 - (most - x)) ≡ integerOf s at n
+  signed-high h =
+      let u = value-small in
+      let t = most-fits in
       let g : 256 ^ n / 2 ≤ x = omega (arith, half) in
-      let y : 256 ^ n - suc x ≡ most - x = omega arith in
+      let y : 256 ^ n - suc x ≡ most - x = omega (arith, c .top) in
       let k : most - x < 9223372036854775808 = omega arith in
       let z : 18446744073709551615 - (most - x) ≡ 18446744073709551616 - suc (most - x) = omega arith in
-      ap (toZ w64) z ∙ toZ-neg w64 (most - x) k ∙ rw (le-ltb _ _ g, y)
+      let e : toZ w64 (18446744073709551616 - suc (most - x)) ≡ signed n x = toZ-neg w64 (most - x) k ∙ rw (le-ltb _ _ g, y) in
+      ap (toZ w64) z ∙ e ∙ ap (signed n) (c .is)
 
 -- ---- what the code's tests show
 
@@ -188,7 +225,8 @@ pub long-short : (s : List ℕ) (at k : ℕ) → length s - at < k → S.Refused
 unfolding longPart
 long-short s at k l = let g : length s < at + k = omega arith in rw (lt-leb _ _ g)
 
-pub long-fits : (s : List ℕ) (at k n : ℕ) (r : SpanAnswer) → at ≤ length s → k ≤ length s - at → n ≡ value 8 0 (bytesOf s at k) → r ≡ partAt s (at + k) n → r ≡ longPart s at k
+pub long-fits : (s : List ℕ) (at k n : ℕ) (r : SpanAnswer) → at ≤ length s → k ≤ length s - at → n ≡ value 8 0 (bytesOf s at k)
+    → r ≡ partAt s (at + k) n → r ≡ longPart s at k
 unfolding longPart
 long-fits s at k n r h l e p = let g : at + k ≤ length s = omega arith in rw (le-leb _ _ g) (p ∙ ap (partAt s (at + k)) e)
 
@@ -226,29 +264,11 @@ pub integer-other : (s : List ℕ) (at b : ℕ) → b ≡ getD s at 0 → (b ≡
 unfolding integerAt
 integer-other s at b e n = rw (← e, ne-eqb _ _ n)
 
-pub integer-is : (s : List ℕ) (at b : ℕ) (x : SpanAnswer) (r : IntegerAnswer) → b ≡ getD s at 0 → b ≡ 2 → x ≡ integerPart s (at + 1) → r ≡ integerIn s x → r ≡ integerAt s at
+pub integer-is : (s : List ℕ) (at b : ℕ) {x z : SpanAnswer} → b ≡ getD s at 0 → b ≡ 2 → x ≡ integerPart s (at + 1) → x ≡ z
+    → integerIn s z ≡ integerAt s at
 unfolding integerAt
-integer-is s at b x r e q p u = rw (← e, eq-eqb _ _ q, ← p) u
+integer-is s at b e q p u = rw (← e, eq-eqb _ _ q, ← p, u)
 
 -- a byte that is not 0 stands within the file
 pub inside-file : (s : List ℕ) (at b : ℕ) → b ≡ getD s at 0 → (b ≡ 0 → ⊥) → at < length s
 inside-file s at b e n = bool-cases (ltb at (length s)) (λ t. ltb-true _ _ t) (λ f. absurd (n (e ∙ List·getD-eq-default s 0 (ltb-false _ _ f))))
-
-byte-power : (n : ℕ) → 2 ^ (8 * n) ≡ 256 ^ n
-byte-power zero = refl
-byte-power (suc n) =
-    let e : 8 * suc n ≡ 8 * n + 8 = mul-suc 8 n in
-    ap (λ (k : ℕ). 2 ^ k) e ∙ pow-add 2 (8 * n) 8 ∙ ap (λ (k : ℕ). k * 256) (byte-power n) ∙ sym (pow-suc 256 n)
-
--- a number below the largest of as many bytes
-pub value-small : (s : List ℕ) (at n x most : ℕ) → ((i : ℕ) → getD s i 0 < 256) → at + n ≤ length s → x ≡ value 8 0 (bytesOf s at n) → most + 1 ≡ 256 ^ n → x ≤ most
-value-small s at n x most small h e m =
-    let l : length (bytesOf s at n) ≡ n = bytes-length s at n h in
-    let b : allBelow 256 (bytesOf s at n) ≡ true = below-take 256 n (drop at s) (below-drop 256 at s (below-all 256 s (λ i _. small i))) in
-    let v : value 8 0 (bytesOf s at n) < 2 ^ (8 * length (bytesOf s at n)) = value-below 8 (bytesOf s at n) b in
-    let w : 2 ^ (8 * n) ≡ 256 ^ n = byte-power n in
-    let u : value 8 0 (bytesOf s at n) < 2 ^ (8 * n) = rw l at v in
-    omega arith
-
-pub most-fits : (n most : ℕ) → n ≤ 8 → most + 1 ≡ 256 ^ n → most ≤ 18446744073709551615
-most-fits n most h e = let p : 256 ^ n ≤ 256 ^ 8 = pow-le-pow-right {n = 256} (omega arith) {i = n} {j = 8} h in omega arith

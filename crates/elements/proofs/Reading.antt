@@ -65,37 +65,54 @@ pub start-none : (form : Form) (s : List ℕ) (at : ℕ) → length s ≤ at →
 unfolding startOf
 start-none form s at h = rw (le-ltb _ _ h)
 
-module _ (form : Form) (s : List ℕ) (at b : ℕ) (h : at < length s) (e : b ≡ getD s at 0) where
-  pub start-wrong : mayBegin form b ≡ false → B.Ended bad ≡ startOf form s at
+pub start-wrong : (form : Form) (s : List ℕ) (at b : ℕ) → at < length s → b ≡ getD s at 0 → mayBegin form b ≡ false → B.Ended bad ≡ startOf form s at
+unfolding startOf
+start-wrong form s at b h e m = rw (lt-ltb _ _ h, ← e, m)
+
+-- a byte b that may begin an element of the form
+pub record MayBegin (form : Form) (s : List ℕ) (at b : ℕ) : Type 0 where
+  pub there : at < length s
+  pub byte : b ≡ getD s at 0
+  pub may : mayBegin form b ≡ true
+
+module _ {form : Form} {s : List ℕ} {at b : ℕ} (g : MayBegin form s at b) where
+  pub start-integer : {x : ElementAnswer} → b ≡ 2 → x ≡ endOf (integerPart s (at + 1)) → B.Ended x ≡ startOf form s at
   unfolding startOf
-  start-wrong m = rw (lt-ltb _ _ h, ← e, m)
+  start-integer q p = rw (lt-ltb _ _ (g .there), ← g .byte, g .may, eq-eqb _ _ q, p)
 
-  module _ (m : mayBegin form b ≡ true) where
-    pub start-integer : (x : ElementAnswer) → b ≡ 2 → x ≡ endOf (integerPart s (at + 1)) → B.Ended x ≡ startOf form s at
+  module _ (n : b ≡ 2 → ⊥) where
+    pub start-text : {x : ElementAnswer} → b ≡ 26 → x ≡ endOf (textPart s (at + 1)) → B.Ended x ≡ startOf form s at
     unfolding startOf
-    start-integer x q p = rw (lt-ltb _ _ h, ← e, m, eq-eqb _ _ q, p)
+    start-text q p = rw (lt-ltb _ _ (g .there), ← g .byte, g .may, ne-eqb _ _ n, eq-eqb _ _ q, p)
 
-    pub start-text : (x : ElementAnswer) → (b ≡ 2 → ⊥) → b ≡ 26 → x ≡ endOf (textPart s (at + 1)) → B.Ended x ≡ startOf form s at
+    pub start-shut : (b ≡ 26 → ⊥) → opens s (at + 1) ≡ false → B.Ended bad ≡ startOf form s at
     unfolding startOf
-    start-text x n q p = rw (lt-ltb _ _ h, ← e, m, ne-eqb _ _ n, eq-eqb _ _ q, p)
+    start-shut k o = rw (lt-ltb _ _ (g .there), ← g .byte, g .may, ne-eqb _ _ n, ne-eqb _ _ k, o)
 
-    module _ (n : b ≡ 2 → ⊥) (k : b ≡ 26 → ⊥) where
-      pub start-shut : opens s (at + 1) ≡ false → B.Ended bad ≡ startOf form s at
-      unfolding startOf
-      start-shut o = rw (lt-ltb _ _ h, ← e, m, ne-eqb _ _ n, ne-eqb _ _ k, o)
+-- it is no integer and no text, and 80 stands behind it
+pub record Opened (form : Form) (s : List ℕ) (at b : ℕ) : Type 0 where
+  pub begins : MayBegin form s at b
+  pub no-integer : b ≡ 2 → ⊥
+  pub no-text : b ≡ 26 → ⊥
+  pub open-behind : opens s (at + 1) ≡ true
 
-      module _ (o : opens s (at + 1) ≡ true) where
-        pub start-list : (i : Form) → b ≡ 48 → i ≡ inside form b → B.List i ≡ startOf form s at
-        unfolding startOf
-        start-list i q p = rw (lt-ltb _ _ h, ← e, m, ne-eqb _ _ n, ne-eqb _ _ k, o, eq-eqb _ _ q, p)
+module _ {form : Form} {s : List ℕ} {at b : ℕ} (o : Opened form s at b) where
+  -- what the tests of an opened element choose
+  opened : {x : Start} → x ≡ cond (eqb b 48) (B.List (inside form b)) (cond (inRange 160 179 b) (B.Choice (inside form b)) (B.Ended bad))
+      → x ≡ startOf form s at
+  unfolding startOf
+  opened p =
+      let g = o .begins in
+      rw (lt-ltb _ _ (g .there), ← g .byte, g .may, ne-eqb _ _ (o .no-integer), ne-eqb _ _ (o .no-text), o .open-behind) p
 
-        pub start-choice : (i : Form) → (b ≡ 48 → ⊥) → inRange 160 179 b ≡ true → i ≡ inside form b → B.Choice i ≡ startOf form s at
-        unfolding startOf
-        start-choice i q r p = rw (lt-ltb _ _ h, ← e, m, ne-eqb _ _ n, ne-eqb _ _ k, o, ne-eqb _ _ q, r, p)
+  pub start-list : {i : Form} → b ≡ 48 → i ≡ inside form b → B.List i ≡ startOf form s at
+  start-list q p = opened (rw (eq-eqb _ _ q, p))
 
-        pub start-other : (b ≡ 48 → ⊥) → inRange 160 179 b ≡ false → B.Ended bad ≡ startOf form s at
-        unfolding startOf
-        start-other q r = rw (lt-ltb _ _ h, ← e, m, ne-eqb _ _ n, ne-eqb _ _ k, o, ne-eqb _ _ q, r)
+  pub start-choice : {i : Form} → (b ≡ 48 → ⊥) → inRange 160 179 b ≡ true → i ≡ inside form b → B.Choice i ≡ startOf form s at
+  start-choice q r p = opened (rw (ne-eqb _ _ q, r, p))
+
+  pub start-other : (b ≡ 48 → ⊥) → inRange 160 179 b ≡ false → B.Ended bad ≡ startOf form s at
+  start-other q r = opened (rw (ne-eqb _ _ q, r))
 
 -- ---- an element ends past its second byte and within s
 

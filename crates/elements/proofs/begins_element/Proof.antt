@@ -17,7 +17,8 @@ in-range-requires : tie.Need-in-range-requires
 in-range-requires c κs = search needs
 
 returns-4 : tie.Need-returns-4
-returns-4 c = rw (ne-eqb _ _ ((c .before .before .before .if1) .left), ne-eqb _ _ ((c .before .before .if2) .left), ne-eqb _ _ ((c .before .if3) .left)) ((c .in-range) .ensures)
+returns-4 c =
+    rw (ne-eqb _ _ (c .before .before .before .if1 .left), ne-eqb _ _ (c .before .before .if2 .left), ne-eqb _ _ (c .before .if3 .left)) (c .in-range .ensures)
 
 pub begins-element-spec : {M : Type 1} → statement M
 begins-element-spec = tie.close (tie.spec returns returns-2 returns-3 in-range-requires returns-4)

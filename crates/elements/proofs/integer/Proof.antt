@@ -1,8 +1,6 @@
 -- `elements::integer`: a byte 02 stands within the slice, and its bytes are those of the part. Assumes nothing.
 use native.Mathlib.Omega.{arith}
-use mathlib.Core.Path.{sym, _∙_}
-use mathlib.Core.Path.{ap}
-use Rattle.elements.specs.Parts.{integerIn}
+use mathlib.Core.Path.{sym, ap, _∙_}
 use mir.Syntax.{w64}
 use mir.ValLaws.{toZ-ofZ}
 use Rattle.elements.specs.declared.IntegerAnswer.the-variants as I
@@ -18,7 +16,10 @@ returns : tie.Need-returns
 returns c = integer-other _ _ _ ((c .before .byte) .ensures) ((c .if1) .taken)
 
 add-integer-part : tie.Need-add-integer-part
-add-integer-part c = omega (arith, inside-file ((c .before .before .before .args) .s .now) ((c .before .before .before .args) .at) ((c .before .byte) .result) ((c .before .byte) .ensures) (λ z. omega arith))
+add-integer-part c =
+    let a = c .before .before .before .args in
+    let h = inside-file (a .s .now) (a .at) (c .before .byte .result) (c .before .byte .ensures) (λ z. omega arith) in
+    omega arith
 
 integer-part-requires : tie.Need-integer-part-requires
 integer-part-requires c κs = search needs
@@ -30,13 +31,17 @@ enum-known-t : tie.Need-enum-known-t
 enum-known-t c = search needs
 
 signed-at-requires : tie.Need-signed-at-requires
-signed-at-requires c κs = let r = integer-read _ _ _ (sym ((c .before .before .before .integer-part) .ensures) ∙ (c .before .t) .given .1) in (r .fits, r .some, r .few)
+signed-at-requires c κs =
+    let r = integer-read _ _ _ (sym (c .before .before .before .integer-part .ensures) ∙ c .before .t .given .1) in
+    (r .fits, r .some, r .few)
 
 returns-2 : tie.Need-returns-2
-returns-2 c = integer-is _ _ _ _ _ ((c .before .before .before .before .before .byte) .ensures) ((c .before .before .before .before .if1) .left) ((c .before .before .before .integer-part) .ensures) (sym (ap (integerIn ((c .before .before .before .before .before .before .before .args) .s .now)) ((c .before .r) .given .1)))
+returns-2 c = integer-is _ _ _ (c .before .before .before .before .before .byte .ensures) (c .before .before .before .before .if1 .left) (c .before .before .before .integer-part .ensures) (c .before .r .given .1)
 
 returns-3 : tie.Need-returns-3
-returns-3 c = integer-is _ _ _ _ _ ((c .before .before .before .before .before .before .byte) .ensures) ((c .before .before .before .before .before .if1) .left) ((c .before .before .before .before .integer-part) .ensures) (ap I.Integer (toZ-ofZ w64 _ (record { sfits = (c .signed-at) .ok }) ∙ (c .signed-at) .ensures) ∙ sym (ap (integerIn ((c .before .before .before .before .before .before .before .before .args) .s .now)) ((c .before .before .t) .given .1)))
+returns-3 c =
+    ap I.Integer (toZ-ofZ w64 _ (record { sfits = c .signed-at .ok }) ∙ c .signed-at .ensures)
+    ∙ integer-is _ _ _ (c .before .before .before .before .before .before .byte .ensures) (c .before .before .before .before .before .if1 .left) (c .before .before .before .before .integer-part .ensures) (c .before .before .t .given .1)
 
 pub integer-spec : {M : Type 1} → statement M
 integer-spec =

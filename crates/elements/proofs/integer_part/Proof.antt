@@ -31,13 +31,17 @@ integer-allowed-requires : tie.Need-integer-allowed-requires
 integer-allowed-requires c κs = search needs
 
 returns-3 : tie.Need-returns-3
-returns-3 c = integer-tested _ _ _ ((c .before .before .before .before .if1) .left) ((c .before .before .before .byte) .ensures) _ ((c .before .before .if2) .left) (sym (not-true _ ((c .if3) .taken)) ∙ (c .before .integer-allowed) .ensures)
+returns-3 c =
+    integer-tested _ _ _ (c .before .before .before .before .if1 .left) (c .before .before .before .byte .ensures) _ (c .before .before .if2 .left)
+    (sym (not-true _ (c .if3 .taken)) ∙ c .before .integer-allowed .ensures)
 
 add-t8 : tie.Need-add-t8
 add-t8 c = search needs
 
 returns-4 : tie.Need-returns-4
-returns-4 c = integer-tested _ _ _ ((c .before .before .before .before .if1) .left) ((c .before .before .before .byte) .ensures) _ ((c .before .before .if2) .left) (sym (not-false _ ((c .if3) .left)) ∙ (c .before .integer-allowed) .ensures)
+returns-4 c =
+    integer-tested _ _ _ (c .before .before .before .before .if1 .left) (c .before .before .before .byte .ensures) _ (c .before .before .if2 .left)
+    (sym (not-false _ (c .if3 .left)) ∙ c .before .integer-allowed .ensures)
 
 pub integer-part-spec : {M : Type 1} → statement M
 integer-part-spec =

@@ -44,10 +44,17 @@ loop-less : tie.Need-loop-less Inv-loop μ-loop
 loop-less c = search needs
 
 loop-again : tie.Need-loop-again Inv-loop μ-loop
-loop-again c = (omega arith, more-digits 8 ((c .before .before .loop) .i) ((c .before .before .loop) .inv .1) (omega arith), value-more 8 ((c .before .before .before .before .args) .s .now) ((c .before .before .before .before .args) .at) ((c .before .before .loop) .i) ((c .before .before .before .before .args) .k) ((c .before .before .loop) .x) ((c .byte) .result) ((c .before .loop-test) .taken) (omega arith) ((c .byte) .ensures) ∙ (c .before .before .loop) .inv .2)
+loop-again c =
+    let l = c .before .before .loop in
+    let a = c .before .before .before .before .args in
+    (omega arith, more-digits 8 (l .i) (l .inv .1) (omega arith),
+    value-more 8 (a .s .now) (a .at) (l .i) (a .k) (l .x) (c .byte .result) (c .before .loop-test .taken) (omega arith) (c .byte .ensures) ∙ l .inv .2)
 
 returns : tie.Need-returns Inv-loop μ-loop
-returns c = sym (value-done 8 ((c .before .before .before .args) .s .now) ((c .before .before .before .args) .at + (c .before .loop) .i) ((c .before .before .before .args) .k - (c .before .loop) .i) ((c .before .loop) .x) (omega arith)) ∙ (c .before .loop) .inv .2
+returns c =
+    let l = c .before .loop in
+    let a = c .before .before .before .args in
+    sym (value-done 8 (a .s .now) (a .at + l .i) (a .k - l .i) (l .x) (omega arith)) ∙ l .inv .2
 
 pub number-at-spec : {M : Type 1} → statement M
 number-at-spec =

@@ -1,11 +1,21 @@
 -- `elements::signed_at`: the upper half of the numbers of n bytes are the negative ones. Assumes nothing.
 use native.Mathlib.Omega.{arith}
-use mathlib.Core.Path.{_∙_, ap}
-use Rattle.fields.specs.Number.{signed}
-use Rattle.elements.proofs.Parts.{value-small, most-fits, signed-low, signed-high}
+use Rattle.elements.proofs.Parts.{Counted, value-small, most-fits, signed-low, signed-high}
 use borrow.Author.Needs.{needs}
 use Rattle.elements.proofs.signed_at.Statement.{statement}
 use Rattle.elements.proofs.signed_at.Tie as tie
+
+counted : (c : tie.After-largest) → let a = c .before .before .before .args in Counted (a .s .now) (a .at) (a .n) (c .before .number-at .result) (c .largest .result)
+counted c =
+    let pre = c .before .before .before .pre in
+    record {
+      some = pre .1;
+      few = pre .2;
+      room = pre .0;
+      small = λ i. c .before .before .shared-slice-known .given i .fits;
+      is = c .before .number-at .ensures;
+      top = c .largest .ensures;
+    }
 
 number-at-requires : tie.Need-number-at-requires
 number-at-requires c κs = search needs
@@ -17,16 +27,16 @@ cast-result : tie.Need-cast-result
 cast-result c = search needs
 
 returns : tie.Need-returns
-returns c = signed-low ((c .before .before .before .before .args) .n) ((c .before .before .number-at) .result) ((c .before .largest) .result) ((c .before .before .before .before .pre) .1) ((c .before .largest) .ensures) (most-fits ((c .before .before .before .before .args) .n) ((c .before .largest) .result) ((c .before .before .before .before .pre) .2) ((c .before .largest) .ensures)) ((c .if1) .taken) ∙ ap (signed ((c .before .before .before .before .args) .n)) ((c .before .before .number-at) .ensures)
+returns c = signed-low (counted (c .before)) (c .if1 .taken)
 
 sub-result : tie.Need-sub-result
-sub-result c = omega (arith, (value-small ((c .before .before .before .before .args) .s .now) ((c .before .before .before .before .args) .at) ((c .before .before .before .before .args) .n) ((c .before .before .number-at) .result) ((c .before .largest) .result) (λ i. (c .before .before .before .shared-slice-known) .given i .fits) ((c .before .before .before .before .pre) .0) ((c .before .before .number-at) .ensures) ((c .before .largest) .ensures)))
+sub-result c = let h = value-small (counted (c .before)) in omega arith
 
 cast-result-2 : tie.Need-cast-result-2
-cast-result-2 c = omega (arith, (most-fits ((c .before .before .before .before .args) .n) ((c .before .largest) .result) ((c .before .before .before .before .pre) .2) ((c .before .largest) .ensures)))
+cast-result-2 c = let h = most-fits (counted (c .before)) in omega arith
 
 returns-2 : tie.Need-returns-2
-returns-2 c = signed-high ((c .before .before .before .before .args) .n) ((c .before .before .number-at) .result) ((c .before .largest) .result) ((c .before .before .before .before .pre) .1) ((c .before .largest) .ensures) (most-fits ((c .before .before .before .before .args) .n) ((c .before .largest) .result) ((c .before .before .before .before .pre) .2) ((c .before .largest) .ensures)) ((c .if1) .left) (value-small ((c .before .before .before .before .args) .s .now) ((c .before .before .before .before .args) .at) ((c .before .before .before .before .args) .n) ((c .before .before .number-at) .result) ((c .before .largest) .result) (λ i. (c .before .before .before .shared-slice-known) .given i .fits) ((c .before .before .before .before .pre) .0) ((c .before .before .number-at) .ensures) ((c .before .largest) .ensures)) ∙ ap (signed ((c .before .before .before .before .args) .n)) ((c .before .before .number-at) .ensures)
+returns-2 c = signed-high (counted (c .before)) (c .if1 .left)
 
 pub signed-at-spec : {M : Type 1} → statement M
 signed-at-spec =

@@ -12,7 +12,10 @@ returns : tie.Need-returns
 returns c = text-other _ _ _ ((c .before .byte) .ensures) ((c .if1) .taken)
 
 add-text-part : tie.Need-add-text-part
-add-text-part c = omega (arith, inside-file ((c .before .before .before .args) .s .now) ((c .before .before .before .args) .at) ((c .before .byte) .result) ((c .before .byte) .ensures) (λ z. omega arith))
+add-text-part c =
+    let a = c .before .before .before .args in
+    let h = inside-file (a .s .now) (a .at) (c .before .byte .result) (c .before .byte .ensures) (λ z. omega arith) in
+    omega arith
 
 text-part-requires : tie.Need-text-part-requires
 text-part-requires c κs = search needs

@@ -26,13 +26,15 @@ part-at-requires : tie.Need-part-at-requires
 part-at-requires c κs = search needs
 
 returns-2 : tie.Need-returns-2
-returns-2 c = text-short _ _ _ ((c .before .before .before .if1) .left) ((c .before .before .byte) .ensures) _ ((c .before .if2) .taken) ((c .part-at) .ensures)
+returns-2 c = text-short _ _ _ (c .before .before .before .if1 .left) (c .before .before .byte .ensures) _ (c .before .if2 .taken) (c .part-at .ensures)
 
 in-range-requires : tie.Need-in-range-requires
 in-range-requires c κs = search needs
 
 returns-3 : tie.Need-returns-3
-returns-3 c = text-wrong _ _ _ ((c .before .before .before .before .if1) .left) ((c .before .before .before .byte) .ensures) ((c .before .before .if2) .left) (sym ((c .before .in-range) .ensures) ∙ not-true _ ((c .if3) .taken))
+returns-3 c =
+    text-wrong _ _ _ (c .before .before .before .before .if1 .left) (c .before .before .before .byte .ensures) (c .before .before .if2 .left)
+    (sym (c .before .in-range .ensures) ∙ not-true _ (c .if3 .taken))
 
 add-long-part : tie.Need-add-long-part
 add-long-part c = search needs
@@ -41,10 +43,14 @@ cast-long-part : tie.Need-cast-long-part
 cast-long-part c = search needs
 
 long-part-requires : tie.Need-long-part-requires
-long-part-requires c κs = (omega arith, omega (arith, range-parts 129 132 ((c .before .before .before .byte) .result) (sym ((c .before .in-range) .ensures) ∙ not-false _ ((c .if3) .left))))
+long-part-requires c κs =
+    let r = range-parts 129 132 (c .before .before .before .byte .result) (sym (c .before .in-range .ensures) ∙ not-false _ (c .if3 .left)) in
+    (omega arith, omega arith)
 
 returns-4 : tie.Need-returns-4
-returns-4 c = text-long _ _ _ ((c .before .before .before .before .before .if1) .left) ((c .before .before .before .before .byte) .ensures) _ ((c .before .before .before .if2) .left) (sym ((c .before .before .in-range) .ensures) ∙ not-false _ ((c .before .if3) .left)) ((c .long-part) .ensures)
+returns-4 c =
+    text-long _ _ _ (c .before .before .before .before .before .if1 .left) (c .before .before .before .before .byte .ensures) _ (c .before .before .before .if2 .left)
+    (sym (c .before .before .in-range .ensures) ∙ not-false _ (c .before .if3 .left)) (c .long-part .ensures)
 
 pub text-part-spec : {M : Type 1} → statement M
 text-part-spec =
