@@ -35,7 +35,10 @@ close-bytes s at e =
     let p = both-pass (ltb (at + 1) (length s) && eqb (getD s at 0) 0) (eqb (getD s (at + 1) 0) 0) e in
     let q = both-pass (ltb (at + 1) (length s)) (eqb (getD s at 0) 0) (p .0) in
     let h : at + 1 < length s = ltb-true (at + 1) (length s) (q .0) in
-    record { first = record { there = omega arith; is = eqb-true (getD s at 0) 0 (q .1) }; second = record { there = h; is = eqb-true (getD s (at + 1) 0) 0 (p .1) } }
+    record {
+      first = record { there = omega arith; is = eqb-true (getD s at 0) 0 (q .1) };
+      second = record { there = h; is = eqb-true (getD s (at + 1) 0) 0 (p .1) };
+    }
 
 pub bytes-close : (s : List ℕ) (at : ℕ) → Close s at → closes s at ≡ true
 unfolding closes
@@ -112,7 +115,8 @@ began-byte (choice tag l h m y o e) z = let q = y .is in omega arith
 
 no-depth : (form : Form) (s : List ℕ) (at n : ℕ) → read 0 form s at ≡ End n → ⊥
 unfolding read tooDeep
-no-depth form s at n = cond-elim (λ (x : ElementAnswer). x ≡ End n → ⊥) (begins (getD s at 0)) (λ _ e. let z : _≡_ {A = ℕ} 0 1 = cc in omega arith) (λ _ e. bad-not-end n e)
+no-depth form s at n =
+    cond-elim (λ (x : ElementAnswer). x ≡ End n → ⊥) (begins (getD s at 0)) (λ _ e. let z : _≡_ {A = ℕ} 0 1 = cc in omega arith) (λ _ e. bad-not-end n e)
 
 -- an element is read with a depth left, and begins so
 pub read-began : (depth : ℕ) (form : Form) (s : List ℕ) (at n : ℕ) → read (suc depth) form s at ≡ End n → Began (λ i p. read depth i s p) form s at n

@@ -111,7 +111,8 @@ module _ (s : List ℕ) (at n : ℕ) where
       let u : at + 1 + 1 + k + value 8 0 (bytesOf s (at + 1 + 1) k) ≡ n =
       subst (λ (m : ℕ). m + k + value 8 0 (take k (drop m s)) ≡ n) (sym (two at)) q in
       let v : at + 1 + 1 + k ≤ length s = omega arith in
-      rw (lt-ltb _ _ (z .there), le-ltb _ _ n128, le-leb _ _ lo, le-leb _ _ hi, w, le-leb _ _ v) (part-full (at + 1 + 1 + k) (value 8 0 (bytesOf s (at + 1 + 1) k)) u f)
+      rw (lt-ltb _ _ (z .there), le-ltb _ _ n128, le-leb _ _ lo, le-leb _ _ hi, w, le-leb _ _ v)
+      (part-full (at + 1 + 1 + k) (value 8 0 (bytesOf s (at + 1 + 1) k)) u f)
 
 -- ---- a reader that reads exactly what a relation says
 
@@ -178,7 +179,11 @@ no-choice k tag h l e = absurd (let q : tag ≡ k = eqb-true tag k e in omega ar
 
 module _ (depth : ℕ) (s : List ℕ) where
   pub integer-reads : Reads (read (suc depth) F.Integer s) (IntegerElement s)
-  integer-reads = record { sound = λ at n e. go at n (read-began depth F.Integer s at n e); full = λ at n i. began-read depth F.Integer s at n (B.integer refl (i .tag) (integer-full s at n i)) }
+  integer-reads =
+      record {
+        sound = λ at n e. go at n (read-began depth F.Integer s at n e);
+        full = λ at n i. began-read depth F.Integer s at n (B.integer refl (i .tag) (integer-full s at n i));
+      }
     where
       go : (at n : ℕ) → Began (λ i p. read depth i s p) F.Integer s at n → IntegerElement s at n
       go at n (B.integer m y e) = integer-sound s at n y e
@@ -191,7 +196,11 @@ module _ (depth : ℕ) (s : List ℕ) where
   text-tag at n (Z.long k y a b z q f) = y
 
   pub text-reads : Reads (read (suc depth) F.Text s) (TextElement s)
-  text-reads = record { sound = λ at n e. go at n (read-began depth F.Text s at n e); full = λ at n t. began-read depth F.Text s at n (B.text refl (text-tag at n t) (text-full s at n t)) }
+  text-reads =
+      record {
+        sound = λ at n e. go at n (read-began depth F.Text s at n e);
+        full = λ at n t. began-read depth F.Text s at n (B.text refl (text-tag at n t) (text-full s at n t));
+      }
     where
       go : (at n : ℕ) → Began (λ i p. read depth i s p) F.Text s at n → TextElement s at n
       go at n (B.integer m y e) = never m

@@ -159,7 +159,8 @@ Reader s inner = (n : ℕ) → Good s (n + 1) (inner n)
 close-good : (s : List ℕ) (lo p : ℕ) → lo < p → closes s p ≡ true → Good s lo (End (p + 2))
 close-good s lo p h c = let k = closes-within s p c in (omega arith, omega arith)
 
-list-good : (s : List ℕ) (inner : ℕ → ElementAnswer) (form : Form) → Reader s inner → (turns low lo at : ℕ) → lo < at → Good s lo (listEnd inner form turns low s at)
+list-good : (s : List ℕ) (inner : ℕ → ElementAnswer) (form : Form) → Reader s inner → (turns low lo at : ℕ) → lo < at
+    → Good s lo (listEnd inner form turns low s at)
 unfolding listEnd
 list-good s inner form g zero low lo at h = tt
 list-good s inner form g (suc turns) low lo at h =

@@ -74,7 +74,8 @@ either : (x : ElementAnswer) → Gives Malformed x → Gives MalformedOrDeep x
 either (End n) g = tt
 either (Refused r) g = inl g
 
-then-gives : (x : ElementAnswer) (more : ℕ → ElementAnswer) → Gives MalformedOrDeep x → ((n : ℕ) → Gives MalformedOrDeep (more n)) → Gives MalformedOrDeep (andThen x more)
+then-gives : (x : ElementAnswer) (more : ℕ → ElementAnswer) → Gives MalformedOrDeep x → ((n : ℕ) → Gives MalformedOrDeep (more n))
+    → Gives MalformedOrDeep (andThen x more)
 then-gives (End n) more g h = h n
 then-gives (Refused r) more g h = g
 
@@ -174,7 +175,8 @@ then-deep (Refused r) more e = inl e
 
 closed-deep : (s : List ℕ) (x : ElementAnswer) → closedAt s x ≡ Refused TooDeep → x ≡ Refused TooDeep
 closed-deep s (End n) e =
-    cond-elim (λ (y : ElementAnswer). y ≡ Refused TooDeep → End n ≡ Refused TooDeep) (closes s n) (λ _ f. end-not-deep (n + 2) f) (λ _ f. not-deep bad refl f) e
+    cond-elim (λ (y : ElementAnswer). y ≡ Refused TooDeep → End n ≡ Refused TooDeep) (closes s n) (λ _ f. end-not-deep (n + 2) f)
+    (λ _ f. not-deep bad refl f) e
 closed-deep s (Refused r) e = e
 
 module _ (depth : ℕ) (s : List ℕ) where
@@ -185,7 +187,8 @@ module _ (depth : ℕ) (s : List ℕ) where
     list-down (suc turns) low at e =
         cond-elim (λ (x : ElementAnswer). x ≡ Refused TooDeep → (p : ℕ) × Leads (Nested depth s) (Deep depth s p) at) (closes s at)
         (λ _ e. end-not-deep (at + 2) e)
-        (λ _ e. go (λ m f. list-down turns (getD s at 0 + 1) m f) (then-deep (read depth F.Any s at) (λ n. listEnd (read depth F.Any s) F.Any turns (getD s at 0 + 1) s n) e))
+        (λ _ e. go (λ m f. list-down turns (getD s at 0 + 1) m f)
+        (then-deep (read depth F.Any s at) (λ n. listEnd (read depth F.Any s) F.Any turns (getD s at 0 + 1) s n) e))
         e
       where
         go : ((m : ℕ) → listEnd (read depth F.Any s) F.Any turns (getD s at 0 + 1) s m ≡ Refused TooDeep → (p : ℕ) × Leads (Nested depth s) (Deep depth s p) m)
@@ -217,7 +220,8 @@ module _ (depth : ℕ) (s : List ℕ) where
         (λ _ e. not-deep bad refl e)
 
   module _ (p : ℕ) (full : (at : ℕ) → Deep depth s p at → read depth F.Any s at ≡ Refused TooDeep) where
-    down-list : (turns low at : ℕ) → length s < turns + at → Leads (Nested depth s) (Deep depth s p) at → listEnd (read depth F.Any s) F.Any turns low s at ≡ Refused TooDeep
+    down-list : (turns low at : ℕ) → length s < turns + at → Leads (Nested depth s) (Deep depth s p) at
+        → listEnd (read depth F.Any s) F.Any turns low s at ≡ Refused TooDeep
     unfolding listEnd
     down-list zero low at l (D.into d) = let w = begun s at (deep-byte depth s p at d) in absurd (omega (arith, w .0))
     down-list (suc turns) low at l (D.into d) = rw (byte-not-close s at (begun s at (deep-byte depth s p at d) .1), full at d)
@@ -234,7 +238,8 @@ module _ (depth : ℕ) (s : List ℕ) where
         let n2 : tag ≡ 2 → ⊥ = λ z. omega arith in
         let n26 : tag ≡ 26 → ⊥ = λ z. omega arith in
         let n48 : tag ≡ 48 → ⊥ = λ z. omega arith in
-        rw (lt-ltb _ _ (y .there), y .is, ne-eqb _ _ n2, ne-eqb _ _ n26, ne-eqb _ _ n48, byte-open s (at + 1) o, le-leb _ _ l, le-leb _ _ h) (ap (closedAt s) (full (at + 2) d))
+        rw (lt-ltb _ _ (y .there), y .is, ne-eqb _ _ n2, ne-eqb _ _ n26, ne-eqb _ _ n48, byte-open s (at + 1) o, le-leb _ _ l, le-leb _ _ h)
+        (ap (closedAt s) (full (at + 2) d))
 
 -- ---- 21 and 20
 
@@ -263,7 +268,8 @@ module _ (depth : ℕ) (s : List ℕ) (at : ℕ) where
     λ w. go w (read depth F.Any s at) refl,
   )
     where
-      go : (TooDeepAt depth s at → ⊥) × ((n : ℕ) → Nested depth s at n → ⊥) → (x : ElementAnswer) → read depth F.Any s at ≡ x → read depth F.Any s at ≡ Refused BadHeader
+      go : (TooDeepAt depth s at → ⊥) × ((n : ℕ) → Nested depth s at n → ⊥) → (x : ElementAnswer) → read depth F.Any s at ≡ x
+          → read depth F.Any s at ≡ Refused BadHeader
       go w (End n) e = absurd (w .1 n (nested-reads depth s .sound at n e))
       go w (Refused r) e = which (read-refusals depth F.Any s at r e)
         where
@@ -285,7 +291,8 @@ module _ (s : List ℕ) (at : ℕ) where
     unfolding integerAt
     integer-exact = (
       λ e. (only e, λ n i. let q : I.Integer (integerWritten i) ≡ I.Refused r = sym (integer-written i) ∙ e in let z : _≡_ {A = ℕ} 0 1 = cc in omega arith),
-      λ w. cond-elim (λ (x : IntegerAnswer). x ≡ I.Refused r) (eqb (getD s at 0) 2) (λ t. none w (eqb-true (getD s at 0) 2 t) (integerPart s (at + 1)) refl) (λ _. ap I.Refused (sym (w .0))),
+      λ w. cond-elim (λ (x : IntegerAnswer). x ≡ I.Refused r) (eqb (getD s at 0) 2) (λ t. none w (eqb-true (getD s at 0) 2 t) (integerPart s (at + 1)) refl)
+      (λ _. ap I.Refused (sym (w .0))),
     )
       where
         cause : (q : Refusal) → integerPart s (at + 1) ≡ S.Refused q → q ≡ BadHeader
@@ -300,7 +307,8 @@ module _ (s : List ℕ) (at : ℕ) where
             cond-elim (λ (x : IntegerAnswer). x ≡ I.Refused r → r ≡ BadHeader) (eqb (getD s at 0) 2) (λ _. which (integerPart s (at + 1)) refl)
             (λ _ e. let p : BadHeader ≡ r = cc in sym p)
 
-        none : (r ≡ BadHeader) × ((n : ℕ) → IntegerElement s at n → ⊥) → getD s at 0 ≡ 2 → (x : SpanAnswer) → integerPart s (at + 1) ≡ x → integerIn s x ≡ I.Refused r
+        none : (r ≡ BadHeader) × ((n : ℕ) → IntegerElement s at n → ⊥) → getD s at 0 ≡ 2 → (x : SpanAnswer) → integerPart s (at + 1) ≡ x
+            → integerIn s x ≡ I.Refused r
         none w b (S.Part t) f = absurd (w .1 (t .start + t .len) (integer-there t (byte-there s at 2 b (omega arith)) f))
         none w b (S.Refused q) f = ap I.Refused (cause q f ∙ sym (w .0))
 
@@ -308,7 +316,8 @@ module _ (s : List ℕ) (at : ℕ) where
     unfolding textAt
     text-exact = (
       λ e. (only e, λ n i. let q : S.Part (textWritten i) ≡ S.Refused r = sym (text-written i) ∙ e in let z : _≡_ {A = ℕ} 0 1 = cc in omega arith),
-      λ w. cond-elim (λ (x : SpanAnswer). x ≡ S.Refused r) (eqb (getD s at 0) 26) (λ t. none w (eqb-true (getD s at 0) 26 t) (textPart s (at + 1)) refl) (λ _. ap S.Refused (sym (w .0))),
+      λ w. cond-elim (λ (x : SpanAnswer). x ≡ S.Refused r) (eqb (getD s at 0) 26) (λ t. none w (eqb-true (getD s at 0) 26 t) (textPart s (at + 1)) refl)
+      (λ _. ap S.Refused (sym (w .0))),
     )
       where
         cause : (q : Refusal) → textPart s (at + 1) ≡ S.Refused q → q ≡ BadHeader
@@ -316,8 +325,10 @@ module _ (s : List ℕ) (at : ℕ) where
 
         only : cond (eqb (getD s at 0) 26) (textPart s (at + 1)) (S.Refused BadHeader) ≡ S.Refused r → r ≡ BadHeader
         only =
-            cond-elim (λ (x : SpanAnswer). x ≡ S.Refused r → r ≡ BadHeader) (eqb (getD s at 0) 26) (λ _ e. cause r e) (λ _ e. let p : BadHeader ≡ r = cc in sym p)
+            cond-elim (λ (x : SpanAnswer). x ≡ S.Refused r → r ≡ BadHeader) (eqb (getD s at 0) 26) (λ _ e. cause r e)
+            (λ _ e. let p : BadHeader ≡ r = cc in sym p)
 
-        none : (r ≡ BadHeader) × ((n : ℕ) → TextElement s at n → ⊥) → getD s at 0 ≡ 26 → (x : SpanAnswer) → textPart s (at + 1) ≡ x → textPart s (at + 1) ≡ S.Refused r
+        none : (r ≡ BadHeader) × ((n : ℕ) → TextElement s at n → ⊥) → getD s at 0 ≡ 26 → (x : SpanAnswer) → textPart s (at + 1) ≡ x
+            → textPart s (at + 1) ≡ S.Refused r
         none w b (S.Part t) f = absurd (w .1 (t .start + t .len) (text-there t (byte-there s at 26 b (omega arith)) f))
         none w b (S.Refused q) f = f ∙ ap S.Refused (cause q f ∙ sym (w .0))

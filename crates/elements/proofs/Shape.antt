@@ -30,7 +30,12 @@ use Rattle.elements.proofs.Exact.{Reads, then-end, list-sound, list-ful
 module _ (depth : ℕ) (s : List ℕ) (form : Form) (One : ℕ → ℕ → Type 0) (begin : (b : ℕ) → mayBegin form b ≡ eqb b 48)
     (follow : (low b : ℕ) → mayFollow form low b ≡ true) (r : Reads (read depth (inside form 48) s) One) where
   pub list-reads : Reads (read (suc depth) form s) (ListElement One s)
-  list-reads = record { sound = λ at n e. go at n (read-began depth form s at n e); full = λ at n l. began-read depth form s at n (B.list (begin 48) (l .tag) (l .opened) (list-full depth (inside form 48) s One r form follow at n l)) }
+  list-reads =
+      record {
+        sound = λ at n e. go at n (read-began depth form s at n e);
+        full = λ at n l. began-read depth form s at n
+            (B.list (begin 48) (l .tag) (l .opened) (list-full depth (inside form 48) s One r form follow at n l));
+      }
     where
       go : (at n : ℕ) → Began (λ i p. read depth i s p) form s at n → ListElement One s at n
       go at n (B.integer m y e) = never (sym (begin 2) ∙ m)
@@ -58,7 +63,8 @@ module _ (depth : ℕ) (s : List ℕ) (form : Form) (last : ℕ) (below : last �
       → read (suc depth) form s at ≡ End n
   tag-read One tag at n l h r c =
       began-read depth form s at n
-      (B.choice tag l (omega arith) (begin tag ∙ rw (le-leb _ _ l, le-leb _ _ h)) (c .tagged) (c .opened) (choice-full depth (inside form tag) s One r tag at n c))
+      (B.choice tag l (omega arith) (begin tag ∙ rw (le-leb _ _ l, le-leb _ _ h)) (c .tagged) (c .opened)
+      (choice-full depth (inside form tag) s One r tag at n c))
 
   -- the choice of a tag that is known
   pub tag-choice : (One : ℕ → ℕ → Type 0) (tag k at n : ℕ) → tag ≡ k → Reads (read depth (inside form k) s) One → Byte s at tag → Byte s (at + 1) 128
@@ -68,19 +74,27 @@ module _ (depth : ℕ) (s : List ℕ) (form : Form) (last : ℕ) (below : last �
       (subst (λ (x : ℕ). closedAt s (read depth (inside form x) s (at + 2)) ≡ End n) q e)
 
 pub object-reads : (depth : ℕ) (s : List ℕ) → Reads (read (suc (suc depth)) F.ObjectId s) (ObjectIdElement s)
-object-reads depth s = record { sound = λ at n e. go at n (tagged (suc depth) s F.ObjectId 161 (omega arith) (λ b. refl) at n (read-began (suc depth) F.ObjectId s at n e)); full = back }
+object-reads depth s =
+    record {
+      sound = λ at n e. go at n (tagged (suc depth) s F.ObjectId 161 (omega arith) (λ b. refl) at n (read-began (suc depth) F.ObjectId s at n e));
+      full = back;
+    }
   where
-    go : (at n : ℕ) → (tag : ℕ) × (160 ≤ tag) × (tag ≤ 161) × Byte s at tag × Byte s (at + 1) 128 × (closedAt s (read (suc depth) (inside F.ObjectId tag) s (at + 2)) ≡ End n)
+    go : (at n : ℕ) → (tag : ℕ) × (160 ≤ tag) × (tag ≤ 161) × Byte s at tag × Byte s (at + 1) 128
+        × (closedAt s (read (suc depth) (inside F.ObjectId tag) s (at + 2)) ≡ End n)
         → ObjectIdElement s at n
     go at n (tag, l, h, y, o, e) =
         bool-cases (eqb tag 160)
-        (λ q. Z.number (tag-choice (suc depth) s F.ObjectId 161 (omega arith) (λ b. refl) (IntegerElement s) tag 160 at n (eqb-true tag 160 q) (integer-reads depth s) y o e))
+        (λ q. Z.number (tag-choice (suc depth) s F.ObjectId 161 (omega arith) (λ b. refl) (IntegerElement s) tag 160 at n (eqb-true tag 160 q)
+        (integer-reads depth s) y o e))
         (λ q. let u = eqb-false tag 160 q in let w : tag ≡ 161 = omega arith in
         Z.text (tag-choice (suc depth) s F.ObjectId 161 (omega arith) (λ b. refl) (TextElement s) tag 161 at n w (text-reads depth s) y o e))
 
     back : (at n : ℕ) → ObjectIdElement s at n → read (suc (suc depth)) F.ObjectId s at ≡ End n
-    back at n (Z.number c) = tag-read (suc depth) s F.ObjectId 161 (omega arith) (λ b. refl) (IntegerElement s) 160 at n (omega arith) (omega arith) (integer-reads depth s) c
-    back at n (Z.text c) = tag-read (suc depth) s F.ObjectId 161 (omega arith) (λ b. refl) (TextElement s) 161 at n (omega arith) (omega arith) (text-reads depth s) c
+    back at n (Z.number c) =
+        tag-read (suc depth) s F.ObjectId 161 (omega arith) (λ b. refl) (IntegerElement s) 160 at n (omega arith) (omega arith) (integer-reads depth s) c
+    back at n (Z.text c) =
+        tag-read (suc depth) s F.ObjectId 161 (omega arith) (λ b. refl) (TextElement s) 161 at n (omega arith) (omega arith) (text-reads depth s) c
 
 other-body : (tag : ℕ) → 161 ≤ tag → (tag ≡ 171 → ⊥) → identifierBody tag ≡ F.Any
 other-body tag l n = let m : tag ≡ 160 → ⊥ = λ z. omega arith in rw (ne-eqb _ _ m, ne-eqb _ _ n)
@@ -88,18 +102,25 @@ other-body tag l n = let m : tag ≡ 160 → ⊥ = λ z. omega arith in rw (ne-e
 module _ (s : List ℕ) where
   -- an identifier stands at depth 5
   pub identifier-reads : Reads (read 12 F.Identifier s) (IdentifierElement s)
-  identifier-reads = record { sound = λ at n e. go at n (tagged 11 s F.Identifier 179 (omega arith) (λ b. refl) at n (read-began 11 F.Identifier s at n e)); full = back }
+  identifier-reads =
+      record {
+        sound = λ at n e. go at n (tagged 11 s F.Identifier 179 (omega arith) (λ b. refl) at n (read-began 11 F.Identifier s at n e));
+        full = back;
+      }
     where
       others : (tag : ℕ) → 161 ≤ tag → (tag ≡ 171 → ⊥) → Reads (read 11 (inside F.Identifier tag) s) (Nested 11 s)
       others tag l n = subst (λ (f : Form). Reads (read 11 f s) (Nested 11 s)) (sym (other-body tag l n)) (nested-reads 11 s)
 
-      go : (at n : ℕ) → (tag : ℕ) × (160 ≤ tag) × (tag ≤ 179) × Byte s at tag × Byte s (at + 1) 128 × (closedAt s (read 11 (inside F.Identifier tag) s (at + 2)) ≡ End n)
+      go : (at n : ℕ) → (tag : ℕ) × (160 ≤ tag) × (tag ≤ 179) × Byte s at tag × Byte s (at + 1) 128
+          × (closedAt s (read 11 (inside F.Identifier tag) s (at + 2)) ≡ End n)
           → IdentifierElement s at n
       go at n (tag, l, h, y, o, e) =
           bool-cases (eqb tag 160)
-          (λ q. Z.local (tag-choice 11 s F.Identifier 179 (omega arith) (λ b. refl) (ObjectIdElement s) tag 160 at n (eqb-true tag 160 q) (object-reads 9 s) y o e))
+          (λ q. Z.local (tag-choice 11 s F.Identifier 179 (omega arith) (λ b. refl) (ObjectIdElement s) tag 160 at n (eqb-true tag 160 q)
+          (object-reads 9 s) y o e))
           (λ q. bool-cases (eqb tag 171)
-          (λ p. Z.gi (tag-choice 11 s F.Identifier 179 (omega arith) (λ b. refl) (IntegerElement s) tag 171 at n (eqb-true tag 171 p) (integer-reads 10 s) y o e))
+          (λ p. Z.gi (tag-choice 11 s F.Identifier 179 (omega arith) (λ b. refl) (IntegerElement s) tag 171 at n (eqb-true tag 171 p)
+          (integer-reads 10 s) y o e))
           (λ p.
           let u = eqb-false tag 160 q in
           let v = eqb-false tag 171 p in
@@ -107,8 +128,10 @@ module _ (s : List ℕ) where
           Z.other tag w h v (choice-sound 11 (inside F.Identifier tag) s (Nested 11 s) (others tag w v) tag at n y o e)))
 
       back : (at n : ℕ) → IdentifierElement s at n → read 12 F.Identifier s at ≡ End n
-      back at n (Z.local c) = tag-read 11 s F.Identifier 179 (omega arith) (λ b. refl) (ObjectIdElement s) 160 at n (omega arith) (omega arith) (object-reads 9 s) c
-      back at n (Z.gi c) = tag-read 11 s F.Identifier 179 (omega arith) (λ b. refl) (IntegerElement s) 171 at n (omega arith) (omega arith) (integer-reads 10 s) c
+      back at n (Z.local c) =
+          tag-read 11 s F.Identifier 179 (omega arith) (λ b. refl) (ObjectIdElement s) 160 at n (omega arith) (omega arith) (object-reads 9 s) c
+      back at n (Z.gi c) =
+          tag-read 11 s F.Identifier 179 (omega arith) (λ b. refl) (IntegerElement s) 171 at n (omega arith) (omega arith) (integer-reads 10 s) c
       back at n (Z.other tag l h v c) = tag-read 11 s F.Identifier 179 (omega arith) (λ b. refl) (Nested 11 s) tag at n (omega arith) h (others tag l v) c
 
   pub identifiers-reads : Reads (read 13 F.Identifiers s) (ListElement (IdentifierElement s) s)
@@ -127,23 +150,33 @@ module _ (s : List ℕ) where
   FieldAt at n = (tag : ℕ) × FieldElement s at n tag
 
   module _ (One : ℕ → ℕ → Type 0) (tag k at n : ℕ) where
-    as-field : tag ≡ k → Reads (read 13 (inside F.Field k) s) One → Byte s at tag → Byte s (at + 1) 128 → closedAt s (read 13 (inside F.Field tag) s (at + 2)) ≡ End n → ChoiceElement One s k at n
+    as-field : tag ≡ k → Reads (read 13 (inside F.Field k) s) One → Byte s at tag → Byte s (at + 1) 128
+        → closedAt s (read 13 (inside F.Field tag) s (at + 2)) ≡ End n → ChoiceElement One s k at n
     as-field = tag-choice 13 s F.Field 165 (omega arith) (λ b. refl) One tag k at n
 
-  field-read : (One : ℕ → ℕ → Type 0) (tag at n : ℕ) → 160 ≤ tag → tag ≤ 165 → Reads (read 13 (inside F.Field tag) s) One → ChoiceElement One s tag at n → read 14 F.Field s at ≡ End n
+  field-read : (One : ℕ → ℕ → Type 0) (tag at n : ℕ) → 160 ≤ tag → tag ≤ 165 → Reads (read 13 (inside F.Field tag) s) One → ChoiceElement One s tag at n
+      → read 14 F.Field s at ≡ End n
   field-read = tag-read 13 s F.Field 165 (omega arith) (λ b. refl)
 
   pub field-reads : Reads (read 14 F.Field s) FieldAt
-  field-reads = record { sound = λ at n e. go at n (tagged 13 s F.Field 165 (omega arith) (λ b. refl) at n (read-began 13 F.Field s at n e)); full = λ at n f. back at n (f .0) (f .1) }
+  field-reads =
+      record {
+        sound = λ at n e. go at n (tagged 13 s F.Field 165 (omega arith) (λ b. refl) at n (read-began 13 F.Field s at n e));
+        full = λ at n f. back at n (f .0) (f .1);
+      }
     where
-      go : (at n : ℕ) → (tag : ℕ) × (160 ≤ tag) × (tag ≤ 165) × Byte s at tag × Byte s (at + 1) 128 × (closedAt s (read 13 (inside F.Field tag) s (at + 2)) ≡ End n)
+      go : (at n : ℕ) → (tag : ℕ) × (160 ≤ tag) × (tag ≤ 165) × Byte s at tag × Byte s (at + 1) 128
+          × (closedAt s (read 13 (inside F.Field tag) s (at + 2)) ≡ End n)
           → FieldAt at n
       go at n (tag, l, h, y, o, e) =
           bool-cases (eqb tag 160) (λ q. (160, Z.title (as-field (TextElement s) tag 160 at n (eqb-true tag 160 q) (text-reads 12 s) y o e)))
-          (λ q0. bool-cases (eqb tag 161) (λ q. (161, Z.seqid (as-field (ListElement (IdentifierElement s) s) tag 161 at n (eqb-true tag 161 q) identifiers-reads y o e)))
+          (λ q0. bool-cases (eqb tag 161)
+          (λ q. (161, Z.seqid (as-field (ListElement (IdentifierElement s) s) tag 161 at n (eqb-true tag 161 q) identifiers-reads y o e)))
           (λ q1. bool-cases (eqb tag 162) (λ q. (162, Z.taxid (as-field (IntegerElement s) tag 162 at n (eqb-true tag 162 q) (integer-reads 12 s) y o e)))
-          (λ q2. bool-cases (eqb tag 163) (λ q. (163, Z.memberships (as-field (ListElement (IntegerElement s) s) tag 163 at n (eqb-true tag 163 q) (integers-reads 11 s) y o e)))
-          (λ q3. bool-cases (eqb tag 164) (λ q. (164, Z.links (as-field (ListElement (IntegerElement s) s) tag 164 at n (eqb-true tag 164 q) (integers-reads 11 s) y o e)))
+          (λ q2. bool-cases (eqb tag 163)
+          (λ q. (163, Z.memberships (as-field (ListElement (IntegerElement s) s) tag 163 at n (eqb-true tag 163 q) (integers-reads 11 s) y o e)))
+          (λ q3. bool-cases (eqb tag 164)
+          (λ q. (164, Z.links (as-field (ListElement (IntegerElement s) s) tag 164 at n (eqb-true tag 164 q) (integers-reads 11 s) y o e)))
           (λ q4.
           let n0 = eqb-false tag 160 q0 in
           let n1 = eqb-false tag 161 q1 in
@@ -216,7 +249,8 @@ module _ (s : List ℕ) where
   unfolding listEnd
   list-any depth more i form h zero low other p n e = e
   list-any depth more i form h (suc turns) low other p n e =
-      let g : ElementAnswer → Type 0 = λ x. x ≡ End n → cond (closes s p) (End (p + 2)) (andThen (read more F.Any s p) (λ m. listEnd (read more F.Any s) F.Any turns (getD s p 0 + 1) s m)) ≡ End n in
+      let g : ElementAnswer → Type 0 = λ x. x ≡ End n
+          → cond (closes s p) (End (p + 2)) (andThen (read more F.Any s p) (λ m. listEnd (read more F.Any s) F.Any turns (getD s p 0 + 1) s m)) ≡ End n in
       cond-elim g (closes s p) (λ c e. rw c e)
       (λ c. cond-elim g (mayFollow form low (getD s p 0))
       (λ _ e.
@@ -236,10 +270,13 @@ module _ (s : List ℕ) where
       let h : depth ≤ more = omega arith in
       go (λ i q m t. any-reads depth more i q m h t) (read-began depth form s at n e)
     where
-      go : ((i : Form) (q m : ℕ) → read depth i s q ≡ End m → read more F.Any s q ≡ End m) → Began (λ i p. read depth i s p) form s at n → read (suc more) F.Any s at ≡ End n
+      go : ((i : Form) (q m : ℕ) → read depth i s q ≡ End m → read more F.Any s q ≡ End m) → Began (λ i p. read depth i s p) form s at n
+          → read (suc more) F.Any s at ≡ End n
       go h (B.integer m y e) = began-read more F.Any s at n (B.integer refl y e)
       go h (B.text m y e) = began-read more F.Any s at n (B.text refl y e)
-      go h (B.list m y o e) = began-read more F.Any s at n (B.list refl y o (list-any depth more (inside form 48) form (h (inside form 48)) (length s) 0 0 (at + 2) n e))
+      go h (B.list m y o e) =
+          began-read more F.Any s at n (B.list refl y o (list-any depth more (inside form 48) form (h (inside form 48)) (length s) 0 0 (at + 2) n e))
       go h (B.choice tag l k m y o e) =
           began-read more F.Any s at n
-          (B.choice tag l k refl y o (closed-any (read depth (inside form tag) s (at + 2)) (read more F.Any s (at + 2)) n (λ q t. h (inside form tag) (at + 2) q t) e))
+          (B.choice tag l k refl y o (closed-any (read depth (inside form tag) s (at + 2)) (read more F.Any s (at + 2)) n
+          (λ q t. h (inside form tag) (at + 2) q t) e))

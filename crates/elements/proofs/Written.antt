@@ -26,7 +26,8 @@ pub text-written : {s : List ℕ} {at n : ℕ} (t : TextElement s at n) → text
 unfolding textAt textPart longPart
 text-written {s} {at} (Z.short y h l q f) =
     let v : at + 1 + 1 + getD s (at + 1) 0 ≤ length s = omega arith in
-    rw (eq-eqb _ _ (y .is), lt-ltb _ _ h, lt-ltb _ _ l) (part-is s (at + 1 + 1) (getD s (at + 1) 0) v ∙ ap (λ (p : ℕ). S.Part (span p (getD s (at + 1) 0))) (two at))
+    rw (eq-eqb _ _ (y .is), lt-ltb _ _ h, lt-ltb _ _ l)
+    (part-is s (at + 1 + 1) (getD s (at + 1) 0) v ∙ ap (λ (p : ℕ). S.Part (span p (getD s (at + 1) 0))) (two at))
 text-written {s} {at} (Z.long k y a b z q f) =
     let i = z .is in
     let n128 : 128 ≤ getD s (at + 1) 0 = omega arith in

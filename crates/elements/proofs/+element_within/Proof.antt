@@ -79,7 +79,8 @@ element-add-p : (t : ℕ) → element-lts.Need-add-p (claims t) (element-at t) e
 element-add-p t c = let h = list-room _ _ _ (c .before .before .before .start-of .ensures) (c .before .inner2 .given .1) in omega arith
 
 element-loop-holds : (t : ℕ) → element-lts.Need-loop-holds (claims t) (element-at t) element.Post element-Inv-loop element-μ-loop
-element-loop-holds t c = rest-begins _ _ _ _ (c .before .before .before .start-of .ensures) (c .before .before .before .before .if1 .left) (c .before .inner2 .given .1)
+element-loop-holds t c =
+    rest-begins _ _ _ _ (c .before .before .before .start-of .ensures) (c .before .before .before .before .if1 .left) (c .before .inner2 .given .1)
 
 element-closes-at-requires : (t : ℕ) → element-lts.Need-closes-at-requires (claims t) (element-at t) element.Post element-Inv-loop element-μ-loop
 element-closes-at-requires t c κs = search needs
@@ -95,7 +96,8 @@ element-may-follow-requires t c κs = search needs
 
 element-returns-2 : (t : ℕ) → element-lts.Need-returns-2 (claims t) (element-at t) element.Post element-Inv-loop element-μ-loop
 element-returns-2 t c =
-    rest-stray (c .before .before .before .before .before .loop .inv) (sym (c .before .before .before .before .closes-at .ensures) ∙ not-true _ (c .before .before .before .if2 .taken))
+    rest-stray (c .before .before .before .before .before .loop .inv)
+    (sym (c .before .before .before .before .closes-at .ensures) ∙ not-true _ (c .before .before .before .if2 .taken))
     (c .before .before .byte .ensures) (sym (c .before .may-follow .ensures) ∙ not-true _ (c .if3 .taken))
 
 element-sub-element-2 : (t : ℕ) → element-lts.Need-sub-element-within-2 (claims t) (element-at t) element.Post element-Inv-loop element-μ-loop
@@ -113,7 +115,8 @@ element-enum-told t c = search needs
 element-returns-3 : (t : ℕ) → element-lts.Need-returns-3 (claims t) (element-at t) element.Post element-Inv-loop element-μ-loop
 element-returns-3 t c =
     rest-refused (c .before .before .before .before .before .before .before .before .loop .inv)
-    (sym (c .before .before .before .before .before .before .before .closes-at .ensures) ∙ not-true _ (c .before .before .before .before .before .before .if2 .taken))
+    (sym (c .before .before .before .before .before .before .before .closes-at .ensures)
+    ∙ not-true _ (c .before .before .before .before .before .before .if2 .taken))
     (c .before .before .before .before .before .byte .ensures)
     (sym (c .before .before .before .before .may-follow .ensures) ∙ not-false _ (c .before .before .before .if3 .left))
     (c .before .before .element-within2 .ensures) (c .enum-told .given .1)
@@ -127,7 +130,8 @@ element-loop-less t c = let w = ends-within _ _ _ _ _ (sym (c .before .before .b
 element-loop-again : (t : ℕ) → element-lts.Need-loop-again (claims t) (element-at t) element.Post element-Inv-loop element-μ-loop
 element-loop-again t c =
     rest-passed (c .before .before .before .before .before .before .before .before .before .loop .inv)
-    (sym (c .before .before .before .before .before .before .before .before .closes-at .ensures) ∙ not-true _ (c .before .before .before .before .before .before .before .if2 .taken))
+    (sym (c .before .before .before .before .before .before .before .before .closes-at .ensures)
+    ∙ not-true _ (c .before .before .before .before .before .before .before .if2 .taken))
     (c .before .before .before .before .before .before .byte .ensures)
     (sym (c .before .before .before .before .before .may-follow .ensures) ∙ not-false _ (c .before .before .before .before .if3 .left))
     (c .before .before .before .element-within2 .ensures) (c .before .e .given .1)
@@ -137,11 +141,13 @@ element-add-t24 : (t : ℕ) → element-lts.Need-add-t24 (claims t) (element-at 
 element-add-t24 t c = let h = closes-within _ _ (sym (c .before .closes-at .ensures) ∙ not-false _ (c .if2 .left)) in omega arith
 
 element-returns-4 : (t : ℕ) → element-lts.Need-returns-4 (claims t) (element-at t) element.Post element-Inv-loop element-μ-loop
-element-returns-4 t c = read-started _ _ _ (c .before .before .before .start-of .ensures) _ (c .before .before .before .before .if1 .left) (c .before .answer .given .1)
+element-returns-4 t c =
+    read-started _ _ _ (c .before .before .before .start-of .ensures) _ (c .before .before .before .before .if1 .left) (c .before .answer .given .1)
 
 element-returns-5 : (t : ℕ) → element-lts.Need-returns-5 (claims t) (element-at t) element.Post element-Inv-loop element-μ-loop
 element-returns-5 t c =
-    read-choice _ _ _ (c .before .before .before .before .before .start-of .ensures) _ (c .before .before .before .before .before .before .if1 .left) (c .before .before .before .inner .given .1)
+    read-choice _ _ _ (c .before .before .before .before .before .start-of .ensures) _ (c .before .before .before .before .before .before .if1 .left)
+    (c .before .before .before .inner .given .1)
     (c .before .element-within .ensures) (c .closed .ensures)
 
 element-returns-6 : (t : ℕ) → element-lts.Need-returns-6 (claims t) (element-at t) element.Post element-Inv-loop element-μ-loop

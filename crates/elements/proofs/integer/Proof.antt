@@ -36,12 +36,15 @@ signed-at-requires c κs =
     (r .fits, r .some, r .few)
 
 returns-2 : tie.Need-returns-2
-returns-2 c = integer-is _ _ _ (c .before .before .before .before .before .byte .ensures) (c .before .before .before .before .if1 .left) (c .before .before .before .integer-part .ensures) (c .before .r .given .1)
+returns-2 c =
+    integer-is _ _ _ (c .before .before .before .before .before .byte .ensures) (c .before .before .before .before .if1 .left)
+    (c .before .before .before .integer-part .ensures) (c .before .r .given .1)
 
 returns-3 : tie.Need-returns-3
 returns-3 c =
     ap I.Integer (toZ-ofZ w64 _ (record { sfits = c .signed-at .ok }) ∙ c .signed-at .ensures)
-    ∙ integer-is _ _ _ (c .before .before .before .before .before .before .byte .ensures) (c .before .before .before .before .before .if1 .left) (c .before .before .before .before .integer-part .ensures) (c .before .before .t .given .1)
+    ∙ integer-is _ _ _ (c .before .before .before .before .before .before .byte .ensures) (c .before .before .before .before .before .if1 .left)
+    (c .before .before .before .before .integer-part .ensures) (c .before .before .t .given .1)
 
 pub integer-spec : {M : Type 1} → statement M
 integer-spec =

@@ -20,7 +20,8 @@ part-at-requires : tie.Need-part-at-requires
 part-at-requires c κs = search needs
 
 returns-2 : tie.Need-returns-2
-returns-2 c = long-fits _ _ _ _ _ (c .before .before .before .before .pre .0) (c .before .before .if1 .left) (c .before .number-at .ensures) (c .part-at .ensures)
+returns-2 c =
+    long-fits _ _ _ _ _ (c .before .before .before .before .pre .0) (c .before .before .if1 .left) (c .before .number-at .ensures) (c .part-at .ensures)
 
 pub long-part-spec : {M : Type 1} → statement M
 long-part-spec =

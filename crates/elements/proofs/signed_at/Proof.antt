@@ -5,7 +5,8 @@ use borrow.Author.Needs.{needs}
 use Rattle.elements.proofs.signed_at.Statement.{statement}
 use Rattle.elements.proofs.signed_at.Tie as tie
 
-counted : (c : tie.After-largest) → let a = c .before .before .before .args in Counted (a .s .now) (a .at) (a .n) (c .before .number-at .result) (c .largest .result)
+counted : (c : tie.After-largest) → let a = c .before .before .before .args in
+    Counted (a .s .now) (a .at) (a .n) (c .before .number-at .result) (c .largest .result)
 counted c =
     let pre = c .before .before .before .pre in
     record {

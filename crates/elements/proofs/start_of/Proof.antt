@@ -4,16 +4,22 @@ use borrow.Author.Tests.{not-true, not-false}
 use Rattle.elements.specs.Reading.{endOf}
 use Prim.Native.Nat.{_+_}
 use Rattle.elements.proofs.Parts.{integer-within, text-within}
-use Rattle.elements.proofs.Reading.{MayBegin, Opened, start-none, start-wrong, start-integer, start-text, start-shut, start-list, start-choice, start-other}
+use Rattle.elements.proofs.Reading.{MayBegin, Opened, start-none, start-wrong, start-integer, start-text, start-shut}
+use Rattle.elements.proofs.Reading.{start-list, start-choice, start-other}
 use borrow.Author.Needs.{needs}
 use Rattle.elements.proofs.start_of.Statement.{statement}
 use Rattle.elements.proofs.start_of.Tie as tie
 
 begins : (c : tie.Else2) → let a = c .before .before .before .before .before .args in MayBegin (a .form) (a .s .now) (a .at) (c .before .before .byte .result)
 begins c =
-    record { there = c .before .before .before .if1 .left; byte = c .before .before .byte .ensures; may = sym (c .before .may-begin .ensures) ∙ not-false _ (c .if2 .left) }
+    record {
+      there = c .before .before .before .if1 .left;
+      byte = c .before .before .byte .ensures;
+      may = sym (c .before .may-begin .ensures) ∙ not-false _ (c .if2 .left);
+    }
 
-opened : (c : tie.Else5) → let a = c .before .before .before .before .before .before .before .before .before .args in Opened (a .form) (a .s .now) (a .at) (c .before .before .before .before .before .before .byte .result)
+opened : (c : tie.Else5) → let a = c .before .before .before .before .before .before .before .before .before .args in
+    Opened (a .form) (a .s .now) (a .at) (c .before .before .before .before .before .before .byte .result)
 opened c =
     record {
       begins = begins (c .before .before .before .before);
@@ -36,7 +42,8 @@ may-begin-requires c κs = search needs
 
 returns-2 : tie.Need-returns-2
 returns-2 c =
-    start-wrong _ _ _ _ (c .before .before .before .if1 .left) (c .before .before .byte .ensures) (sym (c .before .may-begin .ensures) ∙ not-true _ (c .if2 .taken))
+    start-wrong _ _ _ _ (c .before .before .before .if1 .left) (c .before .before .byte .ensures)
+    (sym (c .before .may-begin .ensures) ∙ not-true _ (c .if2 .taken))
 
 add-integer-part : tie.Need-add-integer-part
 add-integer-part c = search needs
@@ -45,10 +52,12 @@ integer-part-requires : tie.Need-integer-part-requires
 integer-part-requires c κs = search needs
 
 part-end-requires : tie.Need-part-end-requires
-part-end-requires c κs = let a = c .before .before .before .before .before .before .before .args in integer-within (a .s .now) (a .at + 1) _ (c .integer-part .ensures)
+part-end-requires c κs =
+    let a = c .before .before .before .before .before .before .before .args in integer-within (a .s .now) (a .at + 1) _ (c .integer-part .ensures)
 
 returns-3 : tie.Need-returns-3
-returns-3 c = start-integer (begins (c .before .before .before)) (c .before .before .if3 .taken) (c .part-end .ensures ∙ ap endOf (c .before .integer-part .ensures))
+returns-3 c =
+    start-integer (begins (c .before .before .before)) (c .before .before .if3 .taken) (c .part-end .ensures ∙ ap endOf (c .before .integer-part .ensures))
 
 add-text-part : tie.Need-add-text-part
 add-text-part c = search needs
@@ -57,7 +66,8 @@ text-part-requires : tie.Need-text-part-requires
 text-part-requires c κs = search needs
 
 part-end-requires-2 : tie.Need-part-end-requires-2
-part-end-requires-2 c κs = let a = c .before .before .before .before .before .before .before .before .args in text-within (a .s .now) (a .at + 1) _ (c .text-part .ensures)
+part-end-requires-2 c κs =
+    let a = c .before .before .before .before .before .before .before .before .args in text-within (a .s .now) (a .at + 1) _ (c .text-part .ensures)
 
 returns-4 : tie.Need-returns-4
 returns-4 c =
@@ -89,7 +99,8 @@ form-inside-requires-2 c κs = search needs
 
 returns-7 : tie.Need-returns-7
 returns-7 c =
-    start-choice (opened (c .before .before .before .before)) (c .before .before .before .if6 .left) (sym (c .before .before .in-range .ensures) ∙ c .before .if7 .taken) (c .form-inside2 .ensures)
+    start-choice (opened (c .before .before .before .before)) (c .before .before .before .if6 .left)
+    (sym (c .before .before .in-range .ensures) ∙ c .before .if7 .taken) (c .form-inside2 .ensures)
 
 returns-8 : tie.Need-returns-8
 returns-8 c = start-other (opened (c .before .before .before)) (c .before .before .if6 .left) (sym (c .before .in-range .ensures) ∙ c .if7 .left)

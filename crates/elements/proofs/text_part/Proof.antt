@@ -49,8 +49,8 @@ long-part-requires c κs =
 
 returns-4 : tie.Need-returns-4
 returns-4 c =
-    text-long _ _ _ (c .before .before .before .before .before .if1 .left) (c .before .before .before .before .byte .ensures) _ (c .before .before .before .if2 .left)
-    (sym (c .before .before .in-range .ensures) ∙ not-false _ (c .before .if3 .left)) (c .long-part .ensures)
+    text-long _ _ _ (c .before .before .before .before .before .if1 .left) (c .before .before .before .before .byte .ensures)
+    _ (c .before .before .before .if2 .left) (sym (c .before .before .in-range .ensures) ∙ not-false _ (c .before .if3 .left)) (c .long-part .ensures)
 
 pub text-part-spec : {M : Type 1} → statement M
 text-part-spec =

@@ -30,10 +30,16 @@ returns-2 : tie.Need-returns-2
 returns-2 c = nest-refused _ _ _ (sym ((c .before .before .before .element) .ensures) ∙ (c .before .r) .given .1)
 
 returns-3 : tie.Need-returns-3
-returns-3 c = shape-refused _ _ _ (sym ((c .before .before .before .before .before .before .before .element) .ensures) ∙ (c .before .before .before .before .before .n) .given .1) ((c .before .before .before .if1) .left) _ (sym ((c .before .before .element2) .ensures) ∙ (c .enum-told) .given .1)
+returns-3 c =
+    shape-refused _ _ _
+    (sym (c .before .before .before .before .before .before .before .element .ensures) ∙ c .before .before .before .before .before .n .given .1)
+    (c .before .before .before .if1 .left) _ (sym (c .before .before .element2 .ensures) ∙ c .enum-told .given .1)
 
 returns-4 : tie.Need-returns-4
-returns-4 c = shape-read _ _ _ (sym ((c .before .before .before .before .before .before .before .element) .ensures) ∙ (c .before .before .before .before .before .n) .given .1) ((c .before .before .before .if1) .left) _ (sym ((c .before .before .element2) .ensures) ∙ (c .enum-told2) .given .1)
+returns-4 c =
+    shape-read _ _ _
+    (sym (c .before .before .before .before .before .before .before .element .ensures) ∙ c .before .before .before .before .before .n .given .1)
+    (c .before .before .before .if1 .left) _ (sym (c .before .before .element2 .ensures) ∙ c .enum-told2 .given .1)
 
 pub check-element-spec : {M : Type 1} → statement M
 check-element-spec =

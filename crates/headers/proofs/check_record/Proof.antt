@@ -16,13 +16,17 @@ returns-3 : tie.Need-returns-3
 returns-3 c = record-past _ _ _ ((c .before .before .if1) .left) ((c .before .if2) .left) ((c .if3) .taken)
 
 slice-aggregate-check-element : tie.Need-slice-aggregate-check-element
-slice-aggregate-check-element c = sym (length-take-le ((c .before .before .before .before .before .args) .end) ((c .before .before .before .before .before .args) .header .now) ((c .before .if3) .left))
+slice-aggregate-check-element c =
+    let a = c .before .before .before .before .before .args in
+    sym (length-take-le (a .end) (a .header .now) (c .before .if3 .left))
 
 check-element-requires : tie.Need-check-element-requires
 check-element-requires c κs = search needs
 
 returns-4 : tie.Need-returns-4
-returns-4 c = record-element _ _ _ ((c .before .before .before .before .if1) .left) ((c .before .before .before .if2) .left) _ ((c .before .before .if3) .left) ((c .check-element) .ensures)
+returns-4 c =
+    record-element _ _ _ ((c .before .before .before .before .if1) .left) ((c .before .before .before .if2) .left) _ ((c .before .before .if3) .left)
+    ((c .check-element) .ensures)
 
 pub check-record-spec : {M : Type 1} → statement M
 check-record-spec =
