@@ -86,7 +86,8 @@ module _ (header : List ℕ) (title : ℕ) (low high : ℤ) (c : Checked) (e : c
   unfolding offsetsLabel
   offsets-refused r p = sym (refused-alone (ownRules (length header) low high) c e Refused (recordLabel title (firstOf header (toNat low) (toNat high))) r p)
 
-  pub offsets-passed : (x : LabelAnswer) → c ≡ C.Passed → x ≡ recordLabel title (firstOf header (toNat low) (toNat high)) → x ≡ offsetsLabel header title low high
+  pub offsets-passed : (x : LabelAnswer) → c ≡ C.Passed → x ≡ recordLabel title (firstOf header (toNat low) (toNat high))
+      → x ≡ offsetsLabel header title low high
   unfolding offsetsLabel
   offsets-passed x p q = q ∙ sym (passed-alone (ownRules (length header) low high) c e Refused (recordLabel title (firstOf header (toNat low) (toNat high))) p)
 
@@ -151,7 +152,8 @@ LabelWithin index header (InIndex t) = t .start + t .len ≤ length index
 LabelWithin index header (Refused r) = Unit {0}
 
 module _ (index header : List ℕ) where
-  record-within : (title low high : ℕ) (f : FirstAnswer) → 12 + title ≤ length index → firstOf header low high ≡ f → LabelWithin index header (recordLabel title f)
+  record-within : (title low high : ℕ) (f : FirstAnswer) → 12 + title ≤ length index → firstOf header low high ≡ f
+      → LabelWithin index header (recordLabel title f)
   record-within title low high (G.Title t) h e = first-within header low high t e
   record-within title low high G.Untitled h e = h
   record-within title low high (G.Refused r) h e = tt
@@ -162,14 +164,16 @@ module _ (index header : List ℕ) where
       let P : LabelAnswer → Type 0 = LabelWithin index header in
       cond-elim P (nonNeg low)
       (λ _. cond-elim P (leZ low high)
-      (λ _. cond-elim P (leZ high (pos (length header))) (λ _. record-within title (toNat low) (toNat high) (firstOf header (toNat low) (toNat high)) h refl) (λ _. tt))
+      (λ _. cond-elim P (leZ high (pos (length header))) (λ _. record-within title (toNat low) (toNat high) (firstOf header (toNat low) (toNat high)) h refl)
+      (λ _. tt))
       (λ _. tt))
       (λ _. tt)
 
   number-within : (number : ℕ) (a : IndexAnswer) → indexAnswer index ≡ a → LabelWithin index header (numberLabel index header number a)
   number-within number (X.Read x) e =
       cond-elim (LabelWithin index header) (ltb number (sequences index))
-      (λ _. offsets-within (titleLength index) (offsetAt index (headerTable index) number) (offsetAt index (headerTable index) (number + 1)) (index-read index x e .titled))
+      (λ _. offsets-within (titleLength index) (offsetAt index (headerTable index) number) (offsetAt index (headerTable index) (number + 1))
+      (index-read index x e .titled))
       (λ _. tt)
   number-within number (X.Refused r) e = tt
 
@@ -188,11 +192,14 @@ module _ (index header : List ℕ) where
   part-index a t e = rw e (simp add-sub-cancel-left)
 
 -- where a part lies
-pub place-header : (index header : ℕ × ℕ) (a : LabelAnswer) (t : Span) → a ≡ InHeader t → _≡_ {A = ℕ × ℕ} (header .0, t .start + header .1) (labelPlace index header a)
+pub place-header : (index header : ℕ × ℕ) (a : LabelAnswer) (t : Span) → a ≡ InHeader t
+    → _≡_ {A = ℕ × ℕ} (header .0, t .start + header .1) (labelPlace index header a)
 place-header index header a t e = rw e
 
-pub place-index : (index header : ℕ × ℕ) (a : LabelAnswer) (t : Span) → a ≡ InIndex t → _≡_ {A = ℕ × ℕ} (index .0, t .start + index .1) (labelPlace index header a)
+pub place-index : (index header : ℕ × ℕ) (a : LabelAnswer) (t : Span) → a ≡ InIndex t
+    → _≡_ {A = ℕ × ℕ} (index .0, t .start + index .1) (labelPlace index header a)
 place-index index header a t e = rw e
 
-pub place-refused : (index header : ℕ × ℕ) (a : LabelAnswer) (r : Refusal) → a ≡ Refused r → _≡_ {A = ℕ × ℕ} (index .0, 0 + index .1) (labelPlace index header a)
+pub place-refused : (index header : ℕ × ℕ) (a : LabelAnswer) (r : Refusal) → a ≡ Refused r
+    → _≡_ {A = ℕ × ℕ} (index .0, 0 + index .1) (labelPlace index header a)
 place-refused index header a r e = rw e

@@ -54,7 +54,8 @@ module _ (header : List ℕ) (start end : ℕ) (passed : checkRecord header star
   pub step-ends : (g : ℕ) → length titles ≤ g → stepOf header start end g ≡ record { answer = T.Refused NoSuchSequence; after = place start end g }
   step-ends g h = let l = title-left titles g h in sym (step-refused header start end g NoSuchSequence (refuses g (l .0) (l .1)))
 
-  one-step : (n g : ℕ) (s : Step) → stepOf header start end g ≡ s → walked (suc n) header (place start end g) ≡ stepThen (s .answer) (walked n header (s .after))
+  one-step : (n g : ℕ) (s : Step) → stepOf header start end g ≡ s
+      → walked (suc n) header (place start end g) ≡ stepThen (s .answer) (walked n header (s .after))
   unfolding walked
   one-step n g s e = ap (λ (x : Step). stepThen (x .answer) (walked n header (x .after))) e
 

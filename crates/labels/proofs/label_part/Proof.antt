@@ -14,7 +14,7 @@ enum-known-t : tie.Need-enum-known-t
 enum-known-t c = search needs
 
 add-end : tie.Need-add-end
-add-end c = omega (arith, (label-within _ _ _ _ (sym ((c .before .before .before .before .find-label) .ensures) ∙ (c .before .before .t) .given .1)))
+add-end c = omega (arith, label-within _ _ _ _ (sym (c .before .before .before .before .find-label .ensures) ∙ c .before .before .t .given .1))
 
 sub-result : tie.Need-sub-result
 sub-result c = search needs
@@ -23,13 +23,13 @@ part-result-start : tie.Need-part-result-start
 part-result-start c = search needs
 
 part-result-end : tie.Need-part-result-end
-part-result-end c = omega (arith, (label-within _ _ _ _ (sym ((c .before .before .before .before .find-label) .ensures) ∙ (c .before .before .t) .given .1)))
+part-result-end c = omega (arith, label-within _ _ _ _ (sym (c .before .before .before .before .find-label .ensures) ∙ c .before .before .t .given .1))
 
 enum-known-t-2 : tie.Need-enum-known-t-2
 enum-known-t-2 c = search needs
 
 add-end-2 : tie.Need-add-end-2
-add-end-2 c = omega (arith, (label-within _ _ _ _ (sym ((c .before .before .before .before .find-label) .ensures) ∙ (c .before .before .t2) .given .1)))
+add-end-2 c = omega (arith, label-within _ _ _ _ (sym (c .before .before .before .before .find-label .ensures) ∙ c .before .before .t2 .given .1))
 
 sub-result-2 : tie.Need-sub-result-2
 sub-result-2 c = search needs
@@ -38,7 +38,7 @@ part-result-start-2 : tie.Need-part-result-start-2
 part-result-start-2 c = search needs
 
 part-result-end-2 : tie.Need-part-result-end-2
-part-result-end-2 c = omega (arith, (label-within _ _ _ _ (sym ((c .before .before .before .before .find-label) .ensures) ∙ (c .before .before .t2) .given .1)))
+part-result-end-2 c = omega (arith, label-within _ _ _ _ (sym (c .before .before .before .before .find-label .ensures) ∙ c .before .before .t2 .given .1))
 
 enum-told : tie.Need-enum-told
 enum-told c = search needs
