@@ -292,7 +292,7 @@ module _ (s : List ℕ) (at : ℕ) where
     integer-exact = (
       λ e. (only e, λ n i. let q : I.Integer (integerWritten i) ≡ I.Refused r = sym (integer-written i) ∙ e in let z : _≡_ {A = ℕ} 0 1 = cc in omega arith),
       λ w. cond-elim (λ (x : IntegerAnswer). x ≡ I.Refused r) (eqb (getD s at 0) 2) (λ t. none w (eqb-true (getD s at 0) 2 t) (integerPart s (at + 1)) refl)
-      (λ _. ap I.Refused (sym (w .0))),
+          (λ _. ap I.Refused (sym (w .0))),
     )
       where
         cause : (q : Refusal) → integerPart s (at + 1) ≡ S.Refused q → q ≡ BadHeader
@@ -317,7 +317,7 @@ module _ (s : List ℕ) (at : ℕ) where
     text-exact = (
       λ e. (only e, λ n i. let q : S.Part (textWritten i) ≡ S.Refused r = sym (text-written i) ∙ e in let z : _≡_ {A = ℕ} 0 1 = cc in omega arith),
       λ w. cond-elim (λ (x : SpanAnswer). x ≡ S.Refused r) (eqb (getD s at 0) 26) (λ t. none w (eqb-true (getD s at 0) 26 t) (textPart s (at + 1)) refl)
-      (λ _. ap S.Refused (sym (w .0))),
+          (λ _. ap S.Refused (sym (w .0))),
     )
       where
         cause : (q : Refusal) → textPart s (at + 1) ≡ S.Refused q → q ≡ BadHeader

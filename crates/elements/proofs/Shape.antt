@@ -250,7 +250,7 @@ module _ (s : List ℕ) where
   list-any depth more i form h zero low other p n e = e
   list-any depth more i form h (suc turns) low other p n e =
       let g : ElementAnswer → Type 0 = λ x. x ≡ End n
-          → cond (closes s p) (End (p + 2)) (andThen (read more F.Any s p) (λ m. listEnd (read more F.Any s) F.Any turns (getD s p 0 + 1) s m)) ≡ End n in
+      → cond (closes s p) (End (p + 2)) (andThen (read more F.Any s p) (λ m. listEnd (read more F.Any s) F.Any turns (getD s p 0 + 1) s m)) ≡ End n in
       cond-elim g (closes s p) (λ c e. rw c e)
       (λ c. cond-elim g (mayFollow form low (getD s p 0))
       (λ _ e.

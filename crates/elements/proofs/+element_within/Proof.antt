@@ -34,10 +34,22 @@ element-below t = and 1 element-kinds.ps (falls 1 element-kinds.ps _<_ μ-elemen
 
 -- what the calls ask and tell; an inner element is read with one depth less
 abbrev claims : ℕ → element-lts.Claims
-claims t =
-    (too-deep-reads.Asked, too-deep-reads.Learnt, start-of-reads.Asked, start-of-reads.Learnt, element-below t, element.Post, closed-reads.Asked,
-    closed-reads.Learnt, closes-at-reads.Asked, closes-at-reads.Learnt, byte-reads.Asked, byte-reads.Learnt, may-follow-reads.Asked,
-    may-follow-reads.Learnt)
+claims t = (
+  too-deep-reads.Asked,
+  too-deep-reads.Learnt,
+  start-of-reads.Asked,
+  start-of-reads.Learnt,
+  element-below t,
+  element.Post,
+  closed-reads.Asked,
+  closed-reads.Learnt,
+  closes-at-reads.Asked,
+  closes-at-reads.Learnt,
+  byte-reads.Asked,
+  byte-reads.Learnt,
+  may-follow-reads.Asked,
+  may-follow-reads.Learnt,
+)
 
 abbrev element-Inv-loop : element-lts.InvT-loop
 element-Inv-loop s at form depth inner p₀ low₀ p low = Rest (Inner depth inner s) form low s p (read depth form s at)

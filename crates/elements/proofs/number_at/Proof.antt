@@ -46,9 +46,11 @@ loop-less c = search needs
 loop-again : tie.Need-loop-again Inv-loop μ-loop
 loop-again c =
     let l = c .before .before .loop in
-    let a = c .before .before .before .before .args in
-    (omega arith, more-digits 8 (l .i) (l .inv .1) (omega arith),
-    value-more 8 (a .s .now) (a .at) (l .i) (a .k) (l .x) (c .byte .result) (c .before .loop-test .taken) (omega arith) (c .byte .ensures) ∙ l .inv .2)
+    let a = c .before .before .before .before .args in (
+      omega arith,
+      more-digits 8 (l .i) (l .inv .1) (omega arith),
+      value-more 8 (a .s .now) (a .at) (l .i) (a .k) (l .x) (c .byte .result) (c .before .loop-test .taken) (omega arith) (c .byte .ensures) ∙ l .inv .2,
+    )
 
 returns : tie.Need-returns Inv-loop μ-loop
 returns c =
