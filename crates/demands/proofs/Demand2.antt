@@ -23,8 +23,7 @@ use Rattle.sequence.specs.Holds.{HasEntries, RangeHolds, SequenceHolds}
 use Rattle.sequence.proofs.Exact as Decoding
 use Rattle.sequence.proofs.Checked as Sequence
 use Rattle.dsqdata.specs.Header.{recordOf}
-use Rattle.dsqdata.specs.Check as Set
-use Rattle.dsqdata.specs.Check.{setCheck, setNumber, setValues}
+use Rattle.dsqdata.specs.Check.{setCheck, setNumber, setValues, setRecordValues}
 use Rattle.dsqdata.specs.Rules.{SetRules}
 use Rattle.dsqdata.proofs.SetRules.{zero-rules, rules-zero}
 use Rattle.headers.specs.Record.{checkRecord}
@@ -77,7 +76,7 @@ pub set-passes-only : (index metadata sequence : List ℕ) → setNumber (setChe
 set-passes-only index metadata sequence = zero-rules index metadata sequence
 
 pub set-passes : (index metadata sequence : List ℕ) → SetRules index metadata sequence
-    → (setNumber (setCheck index metadata sequence) ≡ 0) × (setValues (setCheck index metadata sequence) ≡ Set.recordValues (recordOf index))
+    → (setNumber (setCheck index metadata sequence) ≡ 0) × (setValues (setCheck index metadata sequence) ≡ setRecordValues (recordOf index))
 set-passes index metadata sequence = rules-zero index metadata sequence
 
 -- ---- header records

@@ -1,11 +1,15 @@
+pub mod Chain
+pub mod Fields
 pub mod EachRule
 pub mod Signs
 pub mod Bodies
 pub mod FileBodies
 pub mod Rising
 pub mod Texts
+pub mod Longest
 pub mod Parts
 pub mod Wholes
+pub mod Parted
 pub mod SetRules
 pub mod Demand
 pub mod LookupRules

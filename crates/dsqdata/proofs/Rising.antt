@@ -6,7 +6,7 @@ use mathlib.Core.List.{List}
 use Prim.Native.Nat.{ℕ, zero, suc, _+_, _*_, _-_, _^_, _≤_, _<_}
 use native.Mathlib.Omega.{arith}
 use native.Mathlib.Numerals.{add-one}
-use native.Mathlib.Nat.{eq-or-lt-of-le, le-of-suc-le-suc, le-trans, le-of-eq}
+use native.Mathlib.Nat.{eq-or-lt-of-le, le-of-suc-le-suc, le-trans, le-of-eq, le-antisymm}
 use lib.ListN.{take, length-take, length-drop}
 use lib.Seq.{slice}
 use lib.IntN.{ℤ, negsuc}
@@ -53,8 +53,13 @@ module _ (index : List ℕ) (table : ℕ) where
   end-after k r z e h p = e ∙ ap after (again w64 z (endBefore index table (suc k)) h (p ∙ sym (end-suc k)))
 
   -- the test of a loop that keeps the end before
-  pub rises-is : (k : ℕ) (b e : ℤ) (v : Bool) → b ≡ endBefore index table k → e ≡ setSigned 8 index (table + 16 * k) → ltZ b e ≡ v → risesAt index table k ≡ v
-  rises-is k b e v p q h = rw (end-suc k, ← p, ← q) h
+  pub rises-is : (k : ℕ) {b z : ℤ} (v : Bool) → b ≡ endBefore index table k → mag z < 2 ^ 63 → z ≡ setSigned 8 index (table + 16 * k)
+      → ltZ b (toZ w64 (ofZ w64 z)) ≡ v → risesAt index table k ≡ v
+  rises-is k v p f q h = rw (end-suc k, ← p, ← again w64 _ (setSigned 8 index (table + 16 * k)) f q) h
+
+  -- the place after the last end, where the loop has ended
+  pub last-after : (k n : ℕ) {b : ℤ} {r : ℕ} → k ≤ n → n ≤ k → r ≡ after b → b ≡ endBefore index table k → r ≡ after (endBefore index table n)
+  last-after k n l m e p = e ∙ ap after (p ∙ ap (endBefore index table) (le-antisymm l m))
 
 -- what never falls from one place to the next never falls
 mono : (g : ℕ → ℕ) (n : ℕ) → ((k : ℕ) → k < n → g k ≤ g (suc k)) → (k : ℕ) → k ≤ n → g k ≤ g n

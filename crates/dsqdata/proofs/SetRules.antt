@@ -28,7 +28,7 @@ use Rattle.dsqdata.specs.declared.SetAnswer.the-variants.{Passed, Refuse
 use Rattle.dsqdata.specs.Header.{alphabetOf, countOf, recordOf, bytesAfterHeader, packetsIn}
 use Rattle.dsqdata.specs.Ends.{metadataTable, packetTable, runAt, metadataStart}
 use Rattle.dsqdata.specs.Records.{textsAt, nameAt, accessionAt, descriptionAt}
-use Rattle.dsqdata.specs.Check.{sizeRules, startRules, tagRules, fileRules, headerRules, countRules, bodyRules, layoutRules, metadataEndsRules, packetEndsRules, rulesOfRun, runRules, rulesOfRecord, recordRules, statedRules, totalRules, behindRuns, restRules, contentRules, setRules, otherRules, setCheck, setNumber, setValues, recordValues}
+use Rattle.dsqdata.specs.Check.{sizeRules, startRules, tagRules, fileRules, headerRules, countRules, bodyRules, layoutRules, metadataEndsRules, packetEndsRules, rulesOfRun, runRules, rulesOfRecord, recordRules, statedRules, totalRules, behindRuns, restRules, contentRules, setRules, otherRules, setCheck, setNumber, setValues, setRecordValues}
 use Rattle.dsqdata.specs.Rules.{OtherRules, SetRules}
 use Rattle.dsqdata.proofs.EachRule.{rules-at, rules-all}
 use Rattle.dsqdata.proofs.Rising.{ends-rule, rule-ends}
@@ -244,12 +244,12 @@ module _ (i m s : List ℕ) where
   unfolding setCheck
   zero-all h = zero-passes Refused (Passed (recordOf i)) setNumber (λ r. refl) (setRules i m s) h .0
 
-  pub all-zero : AllHold (setRules i m s) → (setNumber (setCheck i m s) ≡ 0) × (setValues (setCheck i m s) ≡ recordValues (recordOf i))
+  pub all-zero : AllHold (setRules i m s) → (setNumber (setCheck i m s) ≡ 0) × (setValues (setCheck i m s) ≡ setRecordValues (recordOf i))
   all-zero h = let e = all-passed h in (ap setNumber e, ap setValues e)
 
   -- .. and so exactly where the rules of the set are kept; it then returns the ten header fields.
   pub zero-rules : setNumber (setCheck i m s) ≡ 0 → SetRules i m s
   zero-rules h = passed-rules (recordOf i) (all-passed (zero-all h)) .0
 
-  pub rules-zero : SetRules i m s → (setNumber (setCheck i m s) ≡ 0) × (setValues (setCheck i m s) ≡ recordValues (recordOf i))
+  pub rules-zero : SetRules i m s → (setNumber (setCheck i m s) ≡ 0) × (setValues (setCheck i m s) ≡ setRecordValues (recordOf i))
   rules-zero r = let e = rules-passed r in (ap setNumber e, ap setValues e)

@@ -18,7 +18,6 @@ use Rattle.answers.specs.declared.Refusal.the-variants.{BadOffsets, BadRun}
 use Rattle.answers.specs.declared.Checked.{Checked}
 use Rattle.answers.specs.declared.Checked.the-variants as C
 use Rattle.answers.specs.Limits.{checkedBy}
-use Rattle.answers.proofs.Checks.{all-hold, refused-first}
 use Rattle.packets.specs.Runs.{unpacked}
 use Rattle.packets.specs.Reading.{runLength}
 use Rattle.packets.specs.declared.RunLength.{RunLength}
@@ -34,7 +33,8 @@ use Rattle.dsqdata.specs.declared.ends.Part.the-variants as P
 use Rattle.dsqdata.specs.Header.{countOf, recordOf}
 use Rattle.dsqdata.specs.Ends.{endBefore, residuesAt}
 use Rattle.dsqdata.specs.Records.{nameAt, accessionAt, descriptionAt}
-use Rattle.dsqdata.specs.Check.{sizeRules, startRules, tagRules, fileRules, headerRules, countRules, bodyRules, layoutRules, endsRules, rulesTo, rulesOfRun, runRulesTo, rulesOfRecord, statedRules, totalRules, behindRuns, restRules}
+use Rattle.dsqdata.specs.Check.{sizeRules, startRules, tagRules, fileRules, headerRules, countRules, bodyRules, layoutRules}
+use Rattle.dsqdata.specs.Check.{rulesTo, rulesOfRun, runRulesTo, rulesOfRecord, statedRules, totalRules, behindRuns, restRules}
 use Rattle.dsqdata.specs.Scans.{runsTo, recordsTo}
 use Rattle.dsqdata.specs.Lookup.{partRules, startAt, lengthAt, partOf}
 
@@ -121,11 +121,7 @@ module _ (i : List ℕ) (t k : ℕ) (c : Part) (e : c ≡ partOf i t k) where
       let t = v .1 in
       (v .0, (cc), (cc))
 
--- ---- the count and the totals
-
-pub few-sequences : (n : ℕ) (i : List ℕ) (c : Checked) → c ≡ checkedBy (countRules n i) → c ≡ C.Passed → n ≤ 134217728
-unfolding countRules
-few-sequences n i c e p = leb-true _ _ (all-hold (countRules n i) c e p .0)
+-- ---- the totals
 
 pub totals-are : (i m : List ℕ) (set : SetRecord) (residues longest x y z : ℕ) → set ≡ recordOf i
     → x ≡ largestTo (nameAt i m) (countOf i) → y ≡ largestTo (accessionAt i m) (countOf i) → z ≡ largestTo (descriptionAt i m) (countOf i)
@@ -134,10 +130,6 @@ unfolding totalRules
 totals-are i m set residues longest x y z q e f g = rw (q, e, f, g)
 
 -- ---- the parts of the set check
-
-pub ends-here : (i : List ℕ) (t n n′ size size′ : ℕ) (c : Checked) → n ≡ n′ → size ≡ size′ → c ≡ checkedBy (endsRules i t n size)
-    → c ≡ checkedBy (endsRules i t n′ size′)
-ends-here i t n n′ size size′ c e f p = rw (← e, ← f) p
 
 pub rest-is : (i m s : List ℕ) (x y : ℕ) → x ≡ sumTo (residuesAt i s) (countOf i) → y ≡ largestTo (residuesAt i s) (countOf i)
     → checkedBy (behindRuns i m x y) ≡ checkedBy (restRules i m s)
@@ -155,8 +147,3 @@ unfolding layoutRules countRules
 count-small i s h =
     let p = hold-first (countRules (countOf i) i) (bodyRules s) (hold-second (headerRules i) (countRules (countOf i) i ++ bodyRules s) h) in
     leb-true _ _ (p .0)
-
--- a last part that refused decides
-pub refused-alone : (rules : List (Rule Refusal)) (c : Checked) (r : Refusal) → c ≡ checkedBy rules → c ≡ C.Refused r
-    → {B : Type 0} (told : Refusal → B) (fine : B) → verdict told fine rules ≡ told r
-refused-alone rules c r e p told fine = ap (verdict told fine) (sym (append-nil rules)) ∙ refused-first rules [] c r e p told fine

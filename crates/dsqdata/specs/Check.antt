@@ -183,8 +183,8 @@ abbrev pub setNumber : SetAnswer → ℕ
 setNumber (Passed set) = 0
 setNumber (Refused r) = numberOf r
 
-abbrev pub recordValues : SetRecord → List ℕ
-recordValues set =
+abbrev pub setRecordValues : SetRecord → List ℕ
+setRecordValues set =
     set .magic
     ∷ set .tag
     ∷ set .alphabet
@@ -198,5 +198,5 @@ recordValues set =
     ∷ []
 
 abbrev pub setValues : SetAnswer → List ℕ
-setValues (Passed set) = recordValues set
+setValues (Passed set) = setRecordValues set
 setValues (Refused r) = []

@@ -1,5 +1,4 @@
-// The ends of a set's metadata records and runs, which the index has in two tables: from byte 52 on the metadata's, from byte 60 on the packets',
-// sixteen bytes from one end to the next.
+// The ends of a set's metadata records and runs, which the index has in two tables: per sequence, the metadata's and then the packets'.
 use crate::header::signed8;
 use answers::Checked;
 use answers::Refusal;
@@ -11,9 +10,16 @@ ghost use Rattle.dsqdata.specs.Ends.{endBefore};
 ghost use Rattle.dsqdata.specs.Check.{endsRules};
 ghost use Rattle.dsqdata.specs.Lookup.{partOf};
 
+// Where the tables of the metadata's and of the packets' ends begin in the index, and the bytes from one end of a table to the next.
+pub(crate) const METADATA_TABLE: usize = 52;
+
+pub(crate) const PACKET_TABLE: usize = 60;
+
+pub(crate) const ENDS: usize = 16;
+
 // Start and length of a metadata record in bytes, or of a run in packets.
 pub(crate) enum Part {
-    At(u64, u64),
+    At { start: u64, length: u64 },
     Refused(Refusal),
 }
 
@@ -35,7 +41,7 @@ fn end_before(index: &[u8], table: usize, k: usize) -> i64
     if k == 0 {
         return -1;
     }
-    signed8(index, table + 16 * (k - 1))
+    signed8(index, table + ENDS * (k - 1))
 }
 
 // The rules of a table of n ends over a body of `size` places.
@@ -46,7 +52,7 @@ pub(crate) fn check_ends(index: &[u8], table: usize, n: usize, size: usize) -> C
     let mut before: i64 = -1;
     let mut k: usize = 0;
     while k < n {
-        let end = signed8(index, table + 16 * k);
+        let end = signed8(index, table + ENDS * k);
         if !(before < end) {
             return Checked::Refused(Refusal::BadOffsets);
         }
@@ -76,5 +82,8 @@ pub(crate) fn part_at(index: &[u8], table: usize, k: usize) -> Part
         return Part::Refused(Refusal::BadOffsets);
     }
     let start = after_end(before);
-    Part::At(start, after_end(end) - start)
+    Part::At {
+        start,
+        length: after_end(end) - start,
+    }
 }

@@ -1,5 +1,6 @@
 // The fields of a set's files, and the rules of the files, of the header fields and of the lengths that they state.
 use crate::SetRecord;
+use crate::ends::ENDS;
 use answers::Checked;
 use answers::MOST_BYTES;
 use answers::Refusal;
@@ -11,6 +12,11 @@ ghost use Rattle.dsqdata.specs.Check.{sizeRules, startRules, tagRules, f
 
 // The most sequences of a set.
 const MOST_SEQUENCES: u64 = 134217728;
+
+// The bytes of the index before its ends, and of the other files before their bodies.
+const INDEX_HEADER: usize = 52;
+
+const FILE_HEADER: usize = 8;
 
 // What every file of a set begins with.
 const MAGIC: u32 = 0xc4d3d1b1;
@@ -54,14 +60,14 @@ pub(crate) fn read_record(index: &[u8]) -> SetRecord
     }
 }
 
-// The bytes of a file after its header of eight.
+// The bytes of a metadata or sequence file after its header.
 pub(crate) fn bytes_after_header(file: &[u8]) -> usize
     ensures { λ r. ⌜ r ≡ bytesAfterHeader (now (file .entry)) ⌝ }
 {
-    if file.len() < 8 {
+    if file.len() < FILE_HEADER {
         return 0;
     }
-    file.len() - 8
+    file.len() - FILE_HEADER
 }
 
 // The rule of the files' sizes.
@@ -115,15 +121,15 @@ pub(crate) fn check_files(index: &[u8], metadata: &[u8], sequence: &[u8]) -> Che
     if let Checked::Refused(r) = sizes {
         return Checked::Refused(r);
     }
-    let first = check_start(index, 52);
+    let first = check_start(index, INDEX_HEADER);
     if let Checked::Refused(r) = first {
         return Checked::Refused(r);
     }
-    let second = check_start(metadata, 8);
+    let second = check_start(metadata, FILE_HEADER);
     if let Checked::Refused(r) = second {
         return Checked::Refused(r);
     }
-    let third = check_start(sequence, 8);
+    let third = check_start(sequence, FILE_HEADER);
     if let Checked::Refused(r) = third {
         return Checked::Refused(r);
     }
@@ -137,7 +143,7 @@ pub(crate) fn check_count(index: &[u8], count: u64) -> Checked
     if count > MOST_SEQUENCES {
         return Checked::Refused(Refusal::OutOfRange);
     }
-    let size = 52 + 16 * (count as usize);
+    let size = INDEX_HEADER + ENDS * (count as usize);
     if index.len() < size {
         return Checked::Refused(Refusal::TooShort);
     }

@@ -3,6 +3,8 @@
 use answers::Checked;
 use answers::MOST_BYTES;
 use answers::Refusal;
+use ends::METADATA_TABLE;
+use ends::PACKET_TABLE;
 use ends::Part;
 use packets::BytePos;
 use packets::PacketPos;
@@ -12,7 +14,7 @@ ghost use Prim.Native.Nat.{_≤_};
 ghost use lib.ListN.{length};
 ghost use Rattle.answers.specs.Limits.{checkedBy};
 ghost use Rattle.dsqdata.specs.Header.{recordOf, countOf};
-ghost use Rattle.dsqdata.specs.Check.{contentRules, setCheck};
+ghost use Rattle.dsqdata.specs.Check.{metadataEndsRules, packetEndsRules, contentRules, setCheck};
 ghost use Rattle.dsqdata.specs.Lookup.{lookupOf};
 
 mod ends;
@@ -51,22 +53,38 @@ pub enum LookupAnswer {
     Refused(Refusal),
 }
 
+// The rules of the metadata ends, and those of the packet ends.
+fn check_metadata_ends(index: &[u8], metadata: &[u8], set: SetRecord) -> Checked
+    requires { ⌜ (set ≡ recordOf (now index)) × (countOf (now index) ≤ 134217728) ⌝ }
+    ensures { λ r. ⌜ r ≡ checkedBy (metadataEndsRules (now (index .entry)) (now (metadata .entry))) ⌝ }
+{
+    let bytes = header::bytes_after_header(metadata);
+    ends::check_ends(index, METADATA_TABLE, set.count as usize, bytes)
+}
+
+fn check_packet_ends(index: &[u8], sequence: &[u8], set: SetRecord) -> Checked
+    requires { ⌜ (set ≡ recordOf (now index)) × (countOf (now index) ≤ 134217728) ⌝ }
+    ensures { λ r. ⌜ r ≡ checkedBy (packetEndsRules (now (index .entry)) (now (sequence .entry))) ⌝ }
+{
+    let bytes = header::bytes_after_header(sequence);
+    ends::check_ends(index, PACKET_TABLE, set.count as usize, bytes / 4)
+}
+
 // The rules of the ends, the runs, the metadata records and the totals.
 fn check_content(index: &[u8], metadata: &[u8], sequence: &[u8], set: SetRecord) -> Checked
     requires { ⌜ (set ≡ recordOf (now index)) × (countOf (now index) ≤ 134217728) ⌝ }
     requires { ⌜ (length (now metadata) ≤ 2147483647) × (length (now sequence) ≤ 2147483647) ⌝ }
     ensures { λ r. ⌜ r ≡ checkedBy (contentRules (now (index .entry)) (now (metadata .entry)) (now (sequence .entry))) ⌝ }
 {
-    let n = set.count as usize;
-    let metadata_ends = ends::check_ends(index, 52, n, header::bytes_after_header(metadata));
+    let metadata_ends = check_metadata_ends(index, metadata, set);
     if let Checked::Refused(r) = metadata_ends {
         return Checked::Refused(r);
     }
-    let packet_ends = ends::check_ends(index, 60, n, header::bytes_after_header(sequence) / 4);
+    let packet_ends = check_packet_ends(index, sequence, set);
     if let Checked::Refused(r) = packet_ends {
         return Checked::Refused(r);
     }
-    let runs = runs::check_runs(index, sequence, set.alphabet, n);
+    let runs = runs::check_runs(index, sequence, set.alphabet, set.count as usize);
     match runs {
         Runs::Refused(r) => Checked::Refused(r),
         Runs::Totals(residues, longest) => {
@@ -110,10 +128,18 @@ pub fn lookup(set: SetRecord, index: &[u8], number: u64) -> LookupAnswer
         return LookupAnswer::Refused(Refusal::NoSuchSequence);
     }
     let k = number as usize;
-    let Part::At(start, bytes) = ends::part_at(index, 52, k) else {
+    let Part::At {
+        start,
+        length: bytes,
+    } = ends::part_at(index, METADATA_TABLE, k)
+    else {
         return LookupAnswer::Refused(Refusal::BadOffsets);
     };
-    let Part::At(first, packets) = ends::part_at(index, 60, k) else {
+    let Part::At {
+        start: first,
+        length: packets,
+    } = ends::part_at(index, PACKET_TABLE, k)
+    else {
         return LookupAnswer::Refused(Refusal::BadOffsets);
     };
     LookupAnswer::Found {

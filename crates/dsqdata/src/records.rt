@@ -1,5 +1,7 @@
 // The rules of a set behind its runs: the metadata records and the stated totals.
 use crate::SetRecord;
+use crate::ends::ENDS;
+use crate::ends::METADATA_TABLE;
 use crate::ends::after_end;
 use crate::header::signed8;
 use crate::runs::larger;
@@ -17,9 +19,16 @@ ghost use Rattle.dsqdata.specs.Ends.{metadataTable};
 ghost use Rattle.dsqdata.specs.Check.{endsRules, statedRules, behindRuns};
 ghost use Rattle.dsqdata.specs.Scans.{recordsTo};
 
+// Where the records of a metadata file begin, behind its header.
+const FIRST_RECORD: u64 = 8;
+
 // The longest name, accession and description of all metadata records.
 pub(crate) enum Records {
-    Longest(usize, usize, usize),
+    Longest {
+        name: usize,
+        accession: usize,
+        description: usize,
+    },
     Refused(Refusal),
 }
 
@@ -32,11 +41,16 @@ fn check_records(index: &[u8], metadata: &[u8], n: usize) -> Records
     let mut name: usize = 0;
     let mut accession: usize = 0;
     let mut description: usize = 0;
-    let mut from = BytePos(8);
+    let mut from = BytePos(FIRST_RECORD);
     let mut k: usize = 0;
     while k < n {
-        let to = BytePos(8 + after_end(signed8(index, 52 + 16 * k)));
-        let Texts::Lengths(a, b, d) = metadata::read_record(metadata, from, to) else {
+        let to = BytePos(FIRST_RECORD + after_end(signed8(index, METADATA_TABLE + ENDS * k)));
+        let Texts::Lengths {
+            name: a,
+            accession: b,
+            description: d,
+        } = metadata::read_record(metadata, from, to)
+        else {
             return Records::Refused(Refusal::BadMetadata);
         };
         name = larger(name, a);
@@ -45,7 +59,11 @@ fn check_records(index: &[u8], metadata: &[u8], n: usize) -> Records
         from = to;
         k += 1;
     }
-    Records::Longest(name, accession, description)
+    Records::Longest {
+        name,
+        accession,
+        description,
+    }
 }
 
 // The rules of the total of residues and of the longest sequence, name, accession and description.
@@ -92,8 +110,10 @@ pub(crate) fn check_rest(
     let records = check_records(index, metadata, set.count as usize);
     match records {
         Records::Refused(r) => Checked::Refused(r),
-        Records::Longest(name, accession, description) => {
-            check_totals(set, residues, longest, name, accession, description)
-        }
+        Records::Longest {
+            name,
+            accession,
+            description,
+        } => check_totals(set, residues, longest, name, accession, description),
     }
 }

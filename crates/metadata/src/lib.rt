@@ -15,7 +15,11 @@ pub(crate) enum Closing {
 
 // The lengths of a metadata record's name, accession and description.
 pub enum Texts {
-    Lengths(usize, usize, usize),
+    Lengths {
+        name: usize,
+        accession: usize,
+        description: usize,
+    },
     Bad,
 }
 
@@ -88,7 +92,11 @@ fn behind_description(file: &[u8], from: usize, to: usize, n: usize, a: usize, d
     if !is_taxonomy(signed4(file, d + 1)) {
         return Texts::Bad;
     }
-    Texts::Lengths(n - from, a - (n + 1), d - (a + 1))
+    Texts::Lengths {
+        name: n - from,
+        accession: a - (n + 1),
+        description: d - (a + 1),
+    }
 }
 
 // Reads behind the accession, which is closed at a.

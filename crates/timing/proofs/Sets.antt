@@ -8,7 +8,7 @@ use lib.ListN.{length}
 use Rattle.answers.specs.Numbers.{numberOf}
 use Rattle.answers.specs.declared.Refusal.{Refusal}
 use Rattle.dsqdata.specs.Header.{recordOf}
-use Rattle.dsqdata.specs.Check.{setRules, setCheck, setNumber, setValues, recordValues}
+use Rattle.dsqdata.specs.Check.{setRules, setCheck, setNumber, setValues, setRecordValues}
 use Rattle.dsqdata.specs.declared.SetRecord.{SetRecord}
 use Rattle.dsqdata.specs.declared.SetAnswer.{SetAnswer}
 use Rattle.dsqdata.specs.declared.SetAnswer.the-variants.{Passed, Refused}
@@ -40,7 +40,7 @@ module _ (index metadata sequence results : List ℕ) where
       told-short Refused setNumber setValues answers (Passed (recordOf index)) (setRules index metadata sequence) 10 results (Passed set) (passed-not set) room h
 
   pub set-passed : (set : SetRecord) (told : List ℕ) → roomFor 10 (length results) ≡ true → setCheck index metadata sequence ≡ Passed set
-      → told ≡ resultsPut (recordValues set) results → (0 ≡ setNumber answer) × (told ≡ setResults answer results)
+      → told ≡ resultsPut (setRecordValues set) results → (0 ≡ setNumber answer) × (told ≡ setResults answer results)
   unfolding timedSet setCheck
   set-passed set told room h e =
       told-passed Refused setNumber setValues answers (Passed (recordOf index)) (setRules index metadata sequence) 10 results (Passed set) told room h refl e

@@ -1,19 +1,19 @@
 -- `dsqdata::ends::check_ends`: the ends passed rise from -1 on, and `before` is the last of them. Assumes nothing.
-use Rattle.dsqdata.proofs.Rising.{end-zero, end-next, rises-is}
-use Rattle.dsqdata.proofs.Signs.{again}
-use Rattle.laws.specs.Places.{every}
-use Rattle.laws.proofs.Places.{every-more, every-fails, every-done}
-use Rattle.dsqdata.specs.Ends.{endBefore, risesAt}
-use Rattle.dsqdata.specs.Check.{endsRules}
-use Rattle.packets.specs.Ends.{after}
-use mir.Val.{toZ}
-use mir.Syntax.{w64}
-use mathlib.Core.Path.{_≡_, refl, sym, ap, _∙_}
+use mathlib.Core.Path.{_≡_, refl, sym, _∙_}
 use mathlib.Core.Bool.{true, false}
 use Prim.Native.Nat.{_-_, _≤_}
 use native.Mathlib.Omega.{arith}
-use borrow.Author.Tests.{eq-eqb, ne-eqb, not-true, not-false}
+use mir.Syntax.{w64}
+use mir.Val.{toZ}
 use denote.Ref.{now}
+use borrow.Author.Tests.{eq-eqb, ne-eqb, not-true, not-false}
+use Rattle.laws.specs.Places.{every}
+use Rattle.laws.proofs.Places.{every-more, every-fails, every-done}
+use Rattle.packets.specs.Ends.{after}
+use Rattle.dsqdata.specs.Ends.{endBefore, risesAt}
+use Rattle.dsqdata.specs.Check.{endsRules}
+use Rattle.dsqdata.proofs.Signs.{again}
+use Rattle.dsqdata.proofs.Rising.{end-zero, end-next, rises-is, last-after}
 use borrow.Author.Needs.{needs}
 use Rattle.dsqdata.proofs.ends.check_ends.Statement.{statement}
 use Rattle.dsqdata.proofs.ends.check_ends.Tie as tie
@@ -38,11 +38,11 @@ signed8-requires c κs = search needs
 
 returns : tie.Need-returns Inv-loop μ-loop
 unfolding endsRules
-returns c = let a = (c .before .before .before .before .before .args) in
+returns c =
+    let a = (c .before .before .before .before .before .args) in
     let l = (c .before .before .before .loop) in
     let i = now (a .index) in
-    let e = again w64 _ _ ((c .before .signed8) .ok) ((c .before .signed8) .ensures) in
-    let f = rises-is i (a .table) (l .k) _ _ false (l .inv .1) e (not-true _ ((c .if1) .taken)) in
+    let f = rises-is i (a .table) (l .k) false (l .inv .1) ((c .before .signed8) .ok) ((c .before .signed8) .ensures) (not-true _ ((c .if1) .taken)) in
     rw (every-fails (risesAt i (a .table)) (a .n) (l .k) (omega arith) f)
 
 add-k : tie.Need-add-k Inv-loop μ-loop
@@ -52,35 +52,41 @@ loop-less : tie.Need-loop-less Inv-loop μ-loop
 loop-less c = search needs
 
 loop-again : tie.Need-loop-again Inv-loop μ-loop
-loop-again c = let a = (c .before .before .before .before .before .args) in
+loop-again c =
+    let a = (c .before .before .before .before .before .args) in
     let l = (c .before .before .before .loop) in
     let i = now (a .index) in
-    let e = again w64 _ _ ((c .before .signed8) .ok) ((c .before .signed8) .ensures) in
-    let f = rises-is i (a .table) (l .k) _ _ true (l .inv .1) e (not-false _ ((c .if1) .left)) in
-    (omega arith, e ∙ sym (end-next i (a .table) (l .k)), every-more (risesAt i (a .table)) (l .k) (l .inv .2) f)
+    let f = rises-is i (a .table) (l .k) true (l .inv .1) ((c .before .signed8) .ok) ((c .before .signed8) .ensures) (not-false _ ((c .if1) .left)) in (
+      omega arith,
+      again w64 _ _ ((c .before .signed8) .ok) ((c .before .signed8) .ensures) ∙ sym (end-next i (a .table) (l .k)),
+      every-more (risesAt i (a .table)) (l .k) (l .inv .2) f,
+    )
 
 after-end-requires : tie.Need-after-end-requires Inv-loop μ-loop
 after-end-requires c κs = search needs
 
 returns-2 : tie.Need-returns-2 Inv-loop μ-loop
 unfolding endsRules
-returns-2 c = let a = (c .before .before .before .before .before .args) in
+returns-2 c =
+    let a = (c .before .before .before .before .before .args) in
     let l = (c .before .before .before .loop) in
     let i = now (a .index) in
-    let n : l .k ≡ a .n = omega arith in
     let f = every-done (risesAt i (a .table)) (l .k) (a .n) (l .inv .0) ((c .before .before .loop-test) .left) (l .inv .2) in
-    let g : (c .before .after-end) .result ≡ after (endBefore i (a .table) (a .n)) = (c .before .after-end) .ensures ∙ ap after (l .inv .1 ∙ ap (endBefore i (a .table)) n) in
+    let g = last-after i (a .table) (l .k) (a .n) (l .inv .0) ((c .before .before .loop-test) .left) ((c .before .after-end) .ensures) (l .inv .1) in
     rw (f, ne-eqb (after (endBefore i (a .table) (a .n))) (a .size) (λ x. omega (arith, g, x)))
 
 returns-3 : tie.Need-returns-3 Inv-loop μ-loop
 unfolding endsRules
-returns-3 c = let a = (c .before .before .before .before .before .args) in
+returns-3 c =
+    let a = (c .before .before .before .before .before .args) in
     let l = (c .before .before .before .loop) in
     let i = now (a .index) in
-    let n : l .k ≡ a .n = omega arith in
     let f = every-done (risesAt i (a .table)) (l .k) (a .n) (l .inv .0) ((c .before .before .loop-test) .left) (l .inv .2) in
-    let g : (c .before .after-end) .result ≡ after (endBefore i (a .table) (a .n)) = (c .before .after-end) .ensures ∙ ap after (l .inv .1 ∙ ap (endBefore i (a .table)) n) in
-    rw (f, eq-eqb _ _ (sym g ∙ (c .if2) .left))
+    rw (
+      f,
+      eq-eqb (after (endBefore i (a .table) (a .n))) (a .size) (sym (
+          last-after i (a .table) (l .k) (a .n) (l .inv .0) ((c .before .before .loop-test) .left) ((c .before .after-end) .ensures) (l .inv .1)) ∙ (c .if2) .left),
+    )
 
 pub check-ends-spec : {M : Type 1} → statement M
 check-ends-spec =

@@ -1,10 +1,6 @@
 -- `dsqdata::header::check_files`: each part answers for its rules, and the first that refuses decides. Assumes nothing.
-use mathlib.Core.Path.{sym, _∙_}
-use mathlib.Core.List.{_++_}
 use denote.Ref.{now}
-use Rattle.answers.specs.declared.Checked.the-variants.{Passed, Refused}
-use Rattle.answers.proofs.Checks.{refused-first, passed-first}
-use Rattle.dsqdata.specs.Check.{sizeRules, startRules, tagRules, fileRules}
+use Rattle.dsqdata.proofs.Parted.{sizes-stopped, index-stopped, metadata-stopped, sequence-stopped, files-passed}
 use borrow.Author.Needs.{needs}
 use Rattle.dsqdata.proofs.header.check_files.Statement.{statement}
 use Rattle.dsqdata.proofs.header.check_files.Tie as tie
@@ -16,11 +12,10 @@ enum-known-sizes : tie.Need-enum-known-sizes
 enum-known-sizes c = search needs
 
 returns : tie.Need-returns
-unfolding fileRules
-returns c = let i = now ((c .before .before .before .before .before .before .before .args) .index) in
-    let m = now ((c .before .before .before .before .before .before .before .args) .metadata) in
-    let s = now ((c .before .before .before .before .before .before .before .args) .sequence) in
-    sym (refused-first (sizeRules i m s) (startRules 52 i ++ (startRules 8 m ++ (startRules 8 s ++ (tagRules i m s)))) _ _ ((c .before .before .before .check-sizes) .ensures) ((c .before .sizes) .given .1) Refused Passed)
+returns c =
+    let a = (c .before .before .before .before .before .before .before .args) in
+    sizes-stopped (now (a .index)) (now (a .metadata)) (now (a .sequence))
+    ((c .before .before .before .check-sizes) .ensures) ((c .before .sizes) .given .1)
 
 enum-told : tie.Need-enum-told
 enum-told c = search needs
@@ -32,12 +27,11 @@ enum-known-first : tie.Need-enum-known-first
 enum-known-first c = search needs
 
 returns-2 : tie.Need-returns-2
-unfolding fileRules
-returns-2 c = let i = now ((c .before .before .before .before .before .before .before .before .before .before .args) .index) in
-    let m = now ((c .before .before .before .before .before .before .before .before .before .before .args) .metadata) in
-    let s = now ((c .before .before .before .before .before .before .before .before .before .before .args) .sequence) in
-    sym (passed-first (sizeRules i m s) (startRules 52 i ++ (startRules 8 m ++ (startRules 8 s ++ (tagRules i m s)))) _ ((c .before .before .before .before .before .before .check-sizes) .ensures) ((c .before .before .before .before .enum-told) .given .1) Refused Passed
-    ∙ refused-first (startRules 52 i) (startRules 8 m ++ (startRules 8 s ++ (tagRules i m s))) _ _ ((c .before .before .before .check-start) .ensures) ((c .before .first) .given .1) Refused Passed)
+returns-2 c =
+    let a = (c .before .before .before .before .before .before .before .before .before .before .args) in
+    index-stopped (now (a .index)) (now (a .metadata)) (now (a .sequence))
+    ((c .before .before .before .before .before .before .check-sizes) .ensures) ((c .before .before .before .before .enum-told) .given .1)
+    ((c .before .before .before .check-start) .ensures) ((c .before .first) .given .1)
 
 enum-told-2 : tie.Need-enum-told-2
 enum-told-2 c = search needs
@@ -49,13 +43,12 @@ enum-known-second : tie.Need-enum-known-second
 enum-known-second c = search needs
 
 returns-3 : tie.Need-returns-3
-unfolding fileRules
-returns-3 c = let i = now ((c .before .before .before .before .before .before .before .before .before .before .before .before .before .args) .index) in
-    let m = now ((c .before .before .before .before .before .before .before .before .before .before .before .before .before .args) .metadata) in
-    let s = now ((c .before .before .before .before .before .before .before .before .before .before .before .before .before .args) .sequence) in
-    sym (passed-first (sizeRules i m s) (startRules 52 i ++ (startRules 8 m ++ (startRules 8 s ++ (tagRules i m s)))) _ ((c .before .before .before .before .before .before .before .before .before .check-sizes) .ensures) ((c .before .before .before .before .before .before .before .enum-told) .given .1) Refused Passed
-    ∙ passed-first (startRules 52 i) (startRules 8 m ++ (startRules 8 s ++ (tagRules i m s))) _ ((c .before .before .before .before .before .before .check-start) .ensures) ((c .before .before .before .before .enum-told2) .given .1) Refused Passed
-    ∙ refused-first (startRules 8 m) (startRules 8 s ++ (tagRules i m s)) _ _ ((c .before .before .before .check-start2) .ensures) ((c .before .second) .given .1) Refused Passed)
+returns-3 c =
+    let a = (c .before .before .before .before .before .before .before .before .before .before .before .before .before .args) in
+    metadata-stopped (now (a .index)) (now (a .metadata)) (now (a .sequence))
+    ((c .before .before .before .before .before .before .before .before .before .check-sizes) .ensures) ((c .before .before .before .before .before .before .before .enum-told) .given .1)
+    ((c .before .before .before .before .before .before .check-start) .ensures) ((c .before .before .before .before .enum-told2) .given .1)
+    ((c .before .before .before .check-start2) .ensures) ((c .before .second) .given .1)
 
 enum-told-3 : tie.Need-enum-told-3
 enum-told-3 c = search needs
@@ -67,14 +60,13 @@ enum-known-third : tie.Need-enum-known-third
 enum-known-third c = search needs
 
 returns-4 : tie.Need-returns-4
-unfolding fileRules
-returns-4 c = let i = now ((c .before .before .before .before .before .before .before .before .before .before .before .before .before .before .before .before .args) .index) in
-    let m = now ((c .before .before .before .before .before .before .before .before .before .before .before .before .before .before .before .before .args) .metadata) in
-    let s = now ((c .before .before .before .before .before .before .before .before .before .before .before .before .before .before .before .before .args) .sequence) in
-    sym (passed-first (sizeRules i m s) (startRules 52 i ++ (startRules 8 m ++ (startRules 8 s ++ (tagRules i m s)))) _ ((c .before .before .before .before .before .before .before .before .before .before .before .before .check-sizes) .ensures) ((c .before .before .before .before .before .before .before .before .before .before .enum-told) .given .1) Refused Passed
-    ∙ passed-first (startRules 52 i) (startRules 8 m ++ (startRules 8 s ++ (tagRules i m s))) _ ((c .before .before .before .before .before .before .before .before .before .check-start) .ensures) ((c .before .before .before .before .before .before .before .enum-told2) .given .1) Refused Passed
-    ∙ passed-first (startRules 8 m) (startRules 8 s ++ (tagRules i m s)) _ ((c .before .before .before .before .before .before .check-start2) .ensures) ((c .before .before .before .before .enum-told3) .given .1) Refused Passed
-    ∙ refused-first (startRules 8 s) (tagRules i m s) _ _ ((c .before .before .before .check-start3) .ensures) ((c .before .third) .given .1) Refused Passed)
+returns-4 c =
+    let a = (c .before .before .before .before .before .before .before .before .before .before .before .before .before .before .before .before .args) in
+    sequence-stopped (now (a .index)) (now (a .metadata)) (now (a .sequence))
+    ((c .before .before .before .before .before .before .before .before .before .before .before .before .check-sizes) .ensures) ((c .before .before .before .before .before .before .before .before .before .before .enum-told) .given .1)
+    ((c .before .before .before .before .before .before .before .before .before .check-start) .ensures) ((c .before .before .before .before .before .before .before .enum-told2) .given .1)
+    ((c .before .before .before .before .before .before .check-start2) .ensures) ((c .before .before .before .before .enum-told3) .given .1)
+    ((c .before .before .before .check-start3) .ensures) ((c .before .third) .given .1)
 
 enum-told-4 : tie.Need-enum-told-4
 enum-told-4 c = search needs
@@ -83,14 +75,13 @@ check-tags-requires : tie.Need-check-tags-requires
 check-tags-requires c κs = search needs
 
 returns-5 : tie.Need-returns-5
-unfolding fileRules
-returns-5 c = let i = now ((c .before .before .before .before .before .before .before .before .before .before .before .before .before .before .before .before .args) .index) in
-    let m = now ((c .before .before .before .before .before .before .before .before .before .before .before .before .before .before .before .before .args) .metadata) in
-    let s = now ((c .before .before .before .before .before .before .before .before .before .before .before .before .before .before .before .before .args) .sequence) in
-    (c .check-tags) .ensures ∙ sym (passed-first (sizeRules i m s) (startRules 52 i ++ (startRules 8 m ++ (startRules 8 s ++ (tagRules i m s)))) _ ((c .before .before .before .before .before .before .before .before .before .before .before .before .check-sizes) .ensures) ((c .before .before .before .before .before .before .before .before .before .before .enum-told) .given .1) Refused Passed
-    ∙ passed-first (startRules 52 i) (startRules 8 m ++ (startRules 8 s ++ (tagRules i m s))) _ ((c .before .before .before .before .before .before .before .before .before .check-start) .ensures) ((c .before .before .before .before .before .before .before .enum-told2) .given .1) Refused Passed
-    ∙ passed-first (startRules 8 m) (startRules 8 s ++ (tagRules i m s)) _ ((c .before .before .before .before .before .before .check-start2) .ensures) ((c .before .before .before .before .enum-told3) .given .1) Refused Passed
-    ∙ passed-first (startRules 8 s) (tagRules i m s) _ ((c .before .before .before .check-start3) .ensures) ((c .before .enum-told4) .given .1) Refused Passed)
+returns-5 c =
+    let a = (c .before .before .before .before .before .before .before .before .before .before .before .before .before .before .before .before .args) in
+    files-passed (now (a .index)) (now (a .metadata)) (now (a .sequence))
+    ((c .before .before .before .before .before .before .before .before .before .before .before .before .check-sizes) .ensures) ((c .before .before .before .before .before .before .before .before .before .before .enum-told) .given .1)
+    ((c .before .before .before .before .before .before .before .before .before .check-start) .ensures) ((c .before .before .before .before .before .before .before .enum-told2) .given .1)
+    ((c .before .before .before .before .before .before .check-start2) .ensures) ((c .before .before .before .before .enum-told3) .given .1)
+    ((c .before .before .before .check-start3) .ensures) ((c .before .enum-told4) .given .1) ((c .check-tags) .ensures)
 
 pub check-files-spec : {M : Type 1} → statement M
 check-files-spec =

@@ -1,4 +1,6 @@
--- `dsqdata::header::read_record`: each field is read where the record has it. Assumes nothing.
+-- `dsqdata::header::read_record`: field by field. Assumes nothing.
+use denote.Ref.{now}
+use Rattle.dsqdata.proofs.Fields.{record-read}
 use borrow.Author.Needs.{needs}
 use Rattle.dsqdata.proofs.header.read_record.Statement.{statement}
 use Rattle.dsqdata.proofs.header.read_record.Tie as tie
@@ -34,7 +36,13 @@ field8-requires-3 : tie.Need-field8-requires-3
 field8-requires-3 c κs = search needs
 
 returns : tie.Need-returns
-returns c = simp ((c .before .before .before .before .before .before .before .before .before .field4) .ensures, (c .before .before .before .before .before .before .before .before .field42) .ensures, (c .before .before .before .before .before .before .before .field43) .ensures, (c .before .before .before .before .before .before .field44) .ensures, (c .before .before .before .before .before .field45) .ensures, (c .before .before .before .before .field46) .ensures, (c .before .before .before .field47) .ensures, (c .before .before .field8) .ensures, (c .before .field82) .ensures, (c .field83) .ensures)
+returns c =
+    record-read (now ((c .before .before .before .before .before .before .before .before .before .before .before .args) .index))
+    ((c .before .before .before .before .before .before .before .before .before .field4) .ensures) ((c .before .before .before .before .before .before .before .before .field42) .ensures)
+    ((c .before .before .before .before .before .before .before .field43) .ensures) ((c .before .before .before .before .before .before .field44) .ensures)
+    ((c .before .before .before .before .before .field45) .ensures) ((c .before .before .before .before .field46) .ensures)
+    ((c .before .before .before .field47) .ensures) ((c .before .before .field8) .ensures)
+    ((c .before .field82) .ensures) ((c .field83) .ensures)
 
 pub read-record-spec : {M : Type 1} → statement M
 read-record-spec =

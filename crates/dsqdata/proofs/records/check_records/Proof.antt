@@ -1,26 +1,21 @@
 -- `dsqdata::records::check_records`: the records passed keep their rules, and the lengths of their texts are compared. Assumes nothing.
 use mathlib.Core.Path.{_≡_, refl, sym, ap, _∙_}
-use Prim.Native.Nat.{ℕ, suc, _+_, _-_, _≤_}
+use Prim.Native.Nat.{ℕ, _+_, _-_, _≤_}
 use native.Mathlib.Omega.{arith}
-use native.Mathlib.Numerals.{add-one}
 use denote.Ref.{now}
 use lib.IntN.{ℤ}
 use Rattle.laws.specs.Places.{largestTo}
 use Rattle.laws.specs.Rules.{AllHold}
 use Rattle.laws.proofs.Places.{largest-more}
-use Rattle.laws.proofs.Rules.{verdict-passes}
 use Rattle.packets.specs.Ends.{after}
-use Rattle.answers.specs.declared.Refusal.the-variants.{BadMetadata}
 use Rattle.metadata.specs.declared.Texts.the-variants.{Lengths, Bad}
-use Rattle.dsqdata.specs.declared.records.Records.the-variants.{Longest, Refused}
-use Rattle.dsqdata.specs.Header.{bytesAfterHeader}
-use Rattle.dsqdata.specs.Ends.{metadataTable, endBefore, metadataStart}
+use Rattle.dsqdata.specs.Ends.{metadataTable, metadataStart}
 use Rattle.dsqdata.specs.Records.{textsAt, nameAt, accessionAt, descriptionAt}
 use Rattle.dsqdata.specs.Check.{rulesTo, rulesOfRecord}
-use Rattle.dsqdata.specs.Scans.{recordsTo}
-use Rattle.dsqdata.proofs.EachRule.{rules-more, rules-done, rules-refused}
-use Rattle.dsqdata.proofs.Rising.{end-zero, end-after, ends-rule, ends-within}
-use Rattle.dsqdata.proofs.Texts.{texts-are, texts-name, texts-accession, texts-description, record-holds, record-refused}
+use Rattle.dsqdata.proofs.EachRule.{rules-more}
+use Rattle.dsqdata.proofs.Rising.{end-zero}
+use Rattle.dsqdata.proofs.Texts.{record-next, record-within, record-read, texts-name, texts-accession, texts-description, record-holds}
+use Rattle.dsqdata.proofs.Longest.{records-bad, records-done}
 use borrow.Author.Needs.{needs}
 use Rattle.dsqdata.proofs.records.check_records.Statement.{statement}
 use Rattle.dsqdata.proofs.records.check_records.Tie as tie
@@ -37,7 +32,9 @@ abbrev μ-loop : tie.MeasureT-loop
 μ-loop index metadata n name₀ accession₀ description₀ from₀ k₀ name accession description from k = n - k
 
 loop-holds : tie.Need-loop-holds Inv-loop μ-loop
-loop-holds c = let i = now ((c .before .before .args) .index) in (omega arith, sym (ap (λ (z : ℤ). 8 + after z) (end-zero i metadataTable 0 refl)), refl, refl, refl, tt)
+loop-holds c =
+    let e = ap (λ (z : ℤ). 8 + after z) (end-zero (now ((c .before .before .args) .index)) metadataTable 0 refl) in
+    (omega arith, sym e, refl, refl, refl, tt)
 
 mul-signed8 : tie.Need-mul-signed8 Inv-loop μ-loop
 mul-signed8 c = search needs
@@ -52,13 +49,13 @@ after-end-requires : tie.Need-after-end-requires Inv-loop μ-loop
 after-end-requires c κs = search needs
 
 add-t18 : tie.Need-add-t18 Inv-loop μ-loop
-add-t18 c = let a = (c .before .before .before .before .before .before .args) in
+add-t18 c =
+    let a = (c .before .before .before .before .before .before .args) in
     let l = (c .before .before .before .loop) in
-    let i = now (a .index) in
-    let m = now (a .metadata) in
-    let to = end-after i metadataTable (l .k) _ _ ((c .after-end) .ensures) ((c .before .signed8) .ok) ((c .before .signed8) .ensures) in
-    let w = ends-within i metadataTable (a .n) (bytesAfterHeader m) (ends-rule i metadataTable (a .n) (bytesAfterHeader m) ((c .before .before .before .before .before .before .pre) .1)) (suc (l .k)) (omega arith) in
-    omega (arith, to)
+    let w = record-within (now (a .index)) (now (a .metadata)) (l .k) (l .inv .1) ((c .after-end) .ensures)
+    ((c .before .signed8) .ok) ((c .before .signed8) .ensures)
+    (a .n) (omega arith) ((c .before .before .before .before .before .before .pre) .1) in
+    omega (arith, w)
 
 read-record-requires : tie.Need-read-record-requires Inv-loop μ-loop
 read-record-requires c κs = search needs
@@ -70,14 +67,13 @@ enum-told : tie.Need-enum-told Inv-loop μ-loop
 enum-told c = search needs
 
 returns : tie.Need-returns Inv-loop μ-loop
-unfolding recordsTo
-returns c = let a = (c .before .before .before .before .before .before .before .before .before .args) in
+returns c =
+    let a = (c .before .before .before .before .before .before .before .before .before .args) in
     let l = (c .before .before .before .before .before .before .loop) in
-    let i = now (a .index) in
-    let m = now (a .metadata) in
-    let to = end-after i metadataTable (l .k) _ _ ((c .before .before .before .after-end) .ensures) ((c .before .before .before .before .signed8) .ok) ((c .before .before .before .before .signed8) .ensures) in
-    let g : textsAt i m (l .k) ≡ Bad = texts-are i m (l .k) (l .from .0) _ _ _ (l .inv .1) to ((c .before .before .read-record) .ensures) ((c .enum-told) .given .1) in
-    sym (rules-refused (rulesOfRecord i m) (a .n) (l .k) _ BadMetadata (omega arith) (l .inv .5) (record-refused i m (l .k) g) refl Refused (Longest (largestTo (nameAt i m) (a .n)) (largestTo (accessionAt i m) (a .n)) (largestTo (descriptionAt i m) (a .n))))
+    let g : textsAt (now (a .index)) (now (a .metadata)) (l .k) ≡ Bad = record-read (now (a .index)) (now (a .metadata)) (l .k) (l .inv .1) ((c .before .before .before .after-end) .ensures)
+    ((c .before .before .before .before .signed8) .ok) ((c .before .before .before .before .signed8) .ensures)
+    ((c .before .before .read-record) .ensures) ((c .enum-told) .given .1) in
+    records-bad (now (a .index)) (now (a .metadata)) (a .n) (l .k) (omega arith) (l .inv .5) g
 
 larger-requires : tie.Need-larger-requires Inv-loop μ-loop
 larger-requires c κs = search needs
@@ -95,14 +91,18 @@ loop-less : tie.Need-loop-less Inv-loop μ-loop
 loop-less c = search needs
 
 loop-again : tie.Need-loop-again Inv-loop μ-loop
-loop-again c = let a = (c .before .before .before .before .before .before .before .before .before .before .before .before .before .args) in
+loop-again c =
+    let a = (c .before .before .before .before .before .before .before .before .before .before .before .before .before .args) in
     let l = (c .before .before .before .before .before .before .before .before .before .before .loop) in
     let i = now (a .index) in
     let m = now (a .metadata) in
-    let to = end-after i metadataTable (l .k) _ _ ((c .before .before .before .before .before .before .before .after-end) .ensures) ((c .before .before .before .before .before .before .before .before .signed8) .ok) ((c .before .before .before .before .before .before .before .before .signed8) .ensures) in
-    let g : textsAt i m (l .k) ≡ Lengths _ _ _ = texts-are i m (l .k) (l .from .0) _ _ _ (l .inv .1) to ((c .before .before .before .before .before .before .read-record) .ensures) ((c .before .before .before .before .a) .given .1) in (
+    let next = record-next (now (a .index)) (now (a .metadata)) (l .k) (l .inv .1) ((c .before .before .before .before .before .before .before .after-end) .ensures)
+    ((c .before .before .before .before .before .before .before .before .signed8) .ok) ((c .before .before .before .before .before .before .before .before .signed8) .ensures) in
+    let g : textsAt i m (l .k) ≡ Lengths _ _ _ = record-read (now (a .index)) (now (a .metadata)) (l .k) (l .inv .1) ((c .before .before .before .before .before .before .before .after-end) .ensures)
+    ((c .before .before .before .before .before .before .before .before .signed8) .ok) ((c .before .before .before .before .before .before .before .before .signed8) .ensures)
+    ((c .before .before .before .before .before .before .read-record) .ensures) ((c .before .before .before .before .a) .given .1) in (
       omega arith,
-      ap (λ (x : ℕ). 8 + x) (to ∙ ap (λ (x : ℕ). after (endBefore i metadataTable x)) (sym (add-one (l .k)))),
+      next,
       (c .before .before .larger) .ensures ∙ largest-more (nameAt i m) (l .k) _ _ (l .inv .2) (texts-name g),
       (c .before .larger2) .ensures ∙ largest-more (accessionAt i m) (l .k) _ _ (l .inv .3) (texts-accession g),
       (c .larger3) .ensures ∙ largest-more (descriptionAt i m) (l .k) _ _ (l .inv .4) (texts-description g),
@@ -110,17 +110,11 @@ loop-again c = let a = (c .before .before .before .before .before .before .befor
     )
 
 returns-2 : tie.Need-returns-2 Inv-loop μ-loop
-unfolding recordsTo
-returns-2 c = let a = (c .before .before .before .before .args) in
+returns-2 c =
+    let a = (c .before .before .before .before .args) in
     let l = (c .before .loop) in
-    let i = now (a .index) in
-    let m = now (a .metadata) in
-    let n : l .k ≡ a .n = omega arith in
-    let x : l .name ≡ largestTo (nameAt i m) (a .n) = l .inv .2 ∙ ap (largestTo (nameAt i m)) n in
-    let y : l .accession ≡ largestTo (accessionAt i m) (a .n) = l .inv .3 ∙ ap (largestTo (accessionAt i m)) n in
-    let z : l .description ≡ largestTo (descriptionAt i m) (a .n) = l .inv .4 ∙ ap (largestTo (descriptionAt i m)) n in
-    rw (x, y, z) (sym (verdict-passes Refused (Longest (largestTo (nameAt i m) (a .n)) (largestTo (accessionAt i m) (a .n)) (largestTo (descriptionAt i m) (a .n))) (rulesTo (rulesOfRecord i m) (a .n))
-    (rules-done (rulesOfRecord i m) (l .k) (a .n) (l .inv .0) ((c .loop-test) .left) (l .inv .5))))
+    records-done (now (a .index)) (now (a .metadata)) (a .n) (l .k) (l .inv .0) ((c .loop-test) .left)
+    (l .inv .2) (l .inv .3) (l .inv .4) (l .inv .5)
 
 pub check-records-spec : {M : Type 1} → statement M
 check-records-spec =

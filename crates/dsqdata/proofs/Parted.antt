@@ -1,0 +1,249 @@
+-- The set check and the lookup part by part, as the code asks them: each law says what the whole answers by what its parts answered.
+-- Assumes nothing.
+use mathlib.Core.Path.{_≡_, refl, sym, ap, _∙_}
+use mathlib.Core.Bool.{Bool, true, false}
+use mathlib.Core.List.{List, _∷_, _++_}
+use Prim.Native.Nat.{ℕ, _%_, _≤_}
+use lib.Dec.{leb, ltb}
+use lib.ListN.{length}
+use borrow.Author.Tests.{leb-true, eq-eqb, ne-eqb}
+use Rattle.laws.specs.Rules.{Rule, ask, verdict}
+use Rattle.laws.proofs.Rules.{verdict-passes}
+use Rattle.laws.proofs.Verdicts.{hold-then}
+use Rattle.answers.specs.declared.Refusal.{Refusal}
+use Rattle.answers.specs.declared.Refusal.the-variants.{TooShort, WrongKind, OutOfRange, BadOffsets, NoSuchSequence}
+use Rattle.answers.specs.declared.Checked.{Checked}
+use Rattle.answers.specs.declared.Checked.the-variants as C
+use Rattle.answers.specs.Limits.{checkedBy}
+use Rattle.answers.proofs.Checks.{all-hold}
+use Rattle.residues.specs.Alphabets.{isAlphabet}
+use Rattle.dsqdata.specs.declared.SetRecord.{SetRecord}
+use Rattle.dsqdata.specs.declared.SetAnswer.the-variants as S
+use Rattle.dsqdata.specs.declared.LookupAnswer.the-variants as L
+use Rattle.dsqdata.specs.declared.runs.Runs.{Runs}
+use Rattle.dsqdata.specs.declared.runs.Runs.the-variants as U
+use Rattle.dsqdata.specs.declared.records.Records.{Records}
+use Rattle.dsqdata.specs.declared.records.Records.the-variants as M
+use Rattle.dsqdata.specs.declared.ends.Part.{Part}
+use Rattle.dsqdata.specs.declared.ends.Part.the-variants as P
+use Rattle.dsqdata.specs.Header.{alphabetOf, flagsOf, countOf, recordOf, bytesAfterHeader}
+use Rattle.dsqdata.specs.Ends.{metadataTable, packetTable}
+use Rattle.dsqdata.specs.Check.{sizeRules, startRules, tagRules, fileRules, headerRules, countRules, bodyRules, layoutRules}
+use Rattle.dsqdata.specs.Check.{endsRules, metadataEndsRules, packetEndsRules, runRules, recordRules, statedRules, totalRules, behindRuns, restRules}
+use Rattle.dsqdata.specs.Check.{contentRules, setRules, setCheck}
+use Rattle.dsqdata.specs.Scans.{runsTo, recordsTo}
+use Rattle.dsqdata.specs.Lookup.{partRules, partOf, foundAt, lookupRules, lookupOf}
+use Rattle.dsqdata.proofs.Chain.{stopped, passed, stopped-last, passed-last}
+use Rattle.dsqdata.proofs.Wholes.{runs-refused, runs-totals, records-refused, records-longest, part-refused, part-last, part-found}
+use Rattle.dsqdata.proofs.Wholes.{totals-are, rest-is, small-files, count-small}
+
+-- ---- the files
+
+module _ (i m s : List ℕ) {a : Checked} (ea : a ≡ checkedBy (sizeRules i m s)) where
+  pub sizes-stopped : {r : Refusal} → a ≡ C.Refused r → C.Refused r ≡ checkedBy (fileRules i m s)
+  unfolding fileRules
+  sizes-stopped p = stopped C.Refused C.Passed (sizeRules i m s) ea (startRules 52 i ++ (startRules 8 m ++ (startRules 8 s ++ tagRules i m s))) p
+
+  module _ (pa : a ≡ C.Passed) {b : Checked} (eb : b ≡ checkedBy (startRules 52 i)) where
+    behind-sizes : {d : Checked} → d ≡ checkedBy (startRules 52 i ++ (startRules 8 m ++ (startRules 8 s ++ tagRules i m s))) → d ≡ checkedBy (fileRules i m s)
+    unfolding fileRules
+    behind-sizes h = passed C.Refused C.Passed (sizeRules i m s) ea (startRules 52 i ++ (startRules 8 m ++ (startRules 8 s ++ tagRules i m s))) pa h
+
+    pub index-stopped : {r : Refusal} → b ≡ C.Refused r → C.Refused r ≡ checkedBy (fileRules i m s)
+    index-stopped p = behind-sizes (stopped C.Refused C.Passed (startRules 52 i) eb (startRules 8 m ++ (startRules 8 s ++ tagRules i m s)) p)
+
+    module _ (pb : b ≡ C.Passed) {c : Checked} (ec : c ≡ checkedBy (startRules 8 m)) where
+      behind-index : {d : Checked} → d ≡ checkedBy (startRules 8 m ++ (startRules 8 s ++ tagRules i m s)) → d ≡ checkedBy (fileRules i m s)
+      behind-index h = behind-sizes (passed C.Refused C.Passed (startRules 52 i) eb (startRules 8 m ++ (startRules 8 s ++ tagRules i m s)) pb h)
+
+      pub metadata-stopped : {r : Refusal} → c ≡ C.Refused r → C.Refused r ≡ checkedBy (fileRules i m s)
+      metadata-stopped p = behind-index (stopped C.Refused C.Passed (startRules 8 m) ec (startRules 8 s ++ tagRules i m s) p)
+
+      module _ (pc : c ≡ C.Passed) {d : Checked} (ed : d ≡ checkedBy (startRules 8 s)) where
+        behind-metadata : {x : Checked} → x ≡ checkedBy (startRules 8 s ++ tagRules i m s) → x ≡ checkedBy (fileRules i m s)
+        behind-metadata h = behind-index (passed C.Refused C.Passed (startRules 8 m) ec (startRules 8 s ++ tagRules i m s) pc h)
+
+        pub sequence-stopped : {r : Refusal} → d ≡ C.Refused r → C.Refused r ≡ checkedBy (fileRules i m s)
+        sequence-stopped p = behind-metadata (stopped C.Refused C.Passed (startRules 8 s) ed (tagRules i m s) p)
+
+        pub files-passed : d ≡ C.Passed → {x : Checked} → x ≡ checkedBy (tagRules i m s) → x ≡ checkedBy (fileRules i m s)
+        files-passed p h = behind-metadata (passed C.Refused C.Passed (startRules 8 s) ed (tagRules i m s) p h)
+
+-- ---- the header fields
+
+module _ (i s : List ℕ) {set : SetRecord} (q : set ≡ recordOf i) {x : Bool} (e : x ≡ isAlphabet (set .alphabet)) where
+  alphabet-here : isAlphabet (alphabetOf i) ≡ x
+  alphabet-here = sym (e ∙ ap (λ (y : SetRecord). isAlphabet (y .alphabet)) q)
+
+  flags-here : set .flags ≡ flagsOf i
+  flags-here = ap (λ (y : SetRecord). y .flags) q
+
+  pub alphabet-stopped : x ≡ false → C.Refused WrongKind ≡ checkedBy (layoutRules i s)
+  unfolding layoutRules headerRules
+  alphabet-stopped h = rw (alphabet-here ∙ h)
+
+  pub flags-stopped : x ≡ true → (set .flags ≡ 0 → ⊥) → C.Refused OutOfRange ≡ checkedBy (layoutRules i s)
+  unfolding layoutRules headerRules
+  flags-stopped h f = rw (alphabet-here ∙ h, ne-eqb (flagsOf i) 0 (λ z. f (flags-here ∙ z)))
+
+  module _ (h : x ≡ true) (f : set .flags ≡ 0) {c : Checked} (g : c ≡ checkedBy (countRules (set .count) i)) where
+    count-here : c ≡ checkedBy (countRules (countOf i) i)
+    count-here = g ∙ ap (λ (y : SetRecord). checkedBy (countRules (y .count) i)) q
+
+    behind-header : {d : Checked} → d ≡ checkedBy (countRules (countOf i) i ++ bodyRules s) → d ≡ checkedBy (layoutRules i s)
+    unfolding layoutRules headerRules
+    behind-header k = rw (alphabet-here ∙ h, eq-eqb (flagsOf i) 0 (sym flags-here ∙ f)) k
+
+    pub count-stopped : {r : Refusal} → c ≡ C.Refused r → C.Refused r ≡ checkedBy (layoutRules i s)
+    count-stopped p = behind-header (stopped C.Refused C.Passed (countRules (countOf i) i) count-here (bodyRules s) p)
+
+    module _ (p : c ≡ C.Passed) {n : ℕ} (b : n ≡ bytesAfterHeader s) where
+      behind-count : {d : Checked} → d ≡ checkedBy (bodyRules s) → d ≡ checkedBy (layoutRules i s)
+      behind-count k = behind-header (passed C.Refused C.Passed (countRules (countOf i) i) count-here (bodyRules s) p k)
+
+      rest-here : n % 4 ≡ bytesAfterHeader s % 4
+      rest-here = ap (λ (y : ℕ). y % 4) b
+
+      body-broken : (n % 4 ≡ 0 → ⊥) → C.Refused TooShort ≡ checkedBy (bodyRules s)
+      unfolding bodyRules
+      body-broken k = rw (ne-eqb (bytesAfterHeader s % 4) 0 (λ z. k (rest-here ∙ z)))
+
+      body-whole : n % 4 ≡ 0 → C.Passed ≡ checkedBy (bodyRules s)
+      unfolding bodyRules
+      body-whole k = rw (eq-eqb (bytesAfterHeader s % 4) 0 (sym rest-here ∙ k))
+
+      pub body-stopped : (n % 4 ≡ 0 → ⊥) → C.Refused TooShort ≡ checkedBy (layoutRules i s)
+      body-stopped k = behind-count (body-broken k)
+
+      pub layout-passed : n % 4 ≡ 0 → C.Passed ≡ checkedBy (layoutRules i s)
+      layout-passed k = behind-count (body-whole k)
+
+-- ---- the content
+
+-- the ends of a table, counted and sized as the set check does
+pub ends-here : (i : List ℕ) (t size : ℕ) {set : SetRecord} {n : ℕ} {c : Checked} → set ≡ recordOf i → n ≡ size
+    → c ≡ checkedBy (endsRules i t (set .count) n) → c ≡ checkedBy (endsRules i t (countOf i) size)
+ends-here i t size q f p = rw (← ap (λ (x : SetRecord). x .count) q, ← f) p
+
+module _ (i m s : List ℕ) {a : Checked} (ea : a ≡ checkedBy (metadataEndsRules i m)) where
+  pub metadata-ends-stopped : {r : Refusal} → a ≡ C.Refused r → C.Refused r ≡ checkedBy (contentRules i m s)
+  unfolding contentRules
+  metadata-ends-stopped p =
+      stopped C.Refused C.Passed (metadataEndsRules i m) ea (packetEndsRules i s ++ (runRules i s ++ restRules i m s)) p
+
+  module _ (pa : a ≡ C.Passed) {b : Checked} (eb : b ≡ checkedBy (packetEndsRules i s)) where
+    behind-metadata-ends : {d : Checked} → d ≡ checkedBy (packetEndsRules i s ++ (runRules i s ++ restRules i m s)) → d ≡ checkedBy (contentRules i m s)
+    unfolding contentRules
+    behind-metadata-ends h =
+        passed C.Refused C.Passed (metadataEndsRules i m) ea (packetEndsRules i s ++ (runRules i s ++ restRules i m s)) pa h
+
+    pub packet-ends-stopped : {r : Refusal} → b ≡ C.Refused r → C.Refused r ≡ checkedBy (contentRules i m s)
+    packet-ends-stopped p = behind-metadata-ends (stopped C.Refused C.Passed (packetEndsRules i s) eb (runRules i s ++ restRules i m s) p)
+
+    module _ (pb : b ≡ C.Passed) {set : SetRecord} (q : set ≡ recordOf i) {c : Runs} (ec : c ≡ runsTo i s (set .alphabet) (set .count)) where
+      behind-ends : {d : Checked} → d ≡ checkedBy (runRules i s ++ restRules i m s) → d ≡ checkedBy (contentRules i m s)
+      behind-ends h = behind-metadata-ends (passed C.Refused C.Passed (packetEndsRules i s) eb (runRules i s ++ restRules i m s) pb h)
+
+      runs-here : c ≡ runsTo i s (alphabetOf i) (countOf i)
+      runs-here = ec ∙ ap (λ (x : SetRecord). runsTo i s (x .alphabet) (x .count)) q
+
+      pub runs-stopped : {r : Refusal} → c ≡ U.Refused r → C.Refused r ≡ checkedBy (contentRules i m s)
+      runs-stopped p = behind-ends (sym (runs-refused i s (alphabetOf i) (countOf i) c runs-here _ p (restRules i m s) C.Refused C.Passed))
+
+      pub content-passed : {x y : ℕ} → c ≡ U.Totals x y → {d : Checked} → d ≡ checkedBy (behindRuns i m x y) → d ≡ checkedBy (contentRules i m s)
+      content-passed p h =
+          let f = runs-totals i s (alphabetOf i) (countOf i) c runs-here _ _ p in
+          behind-ends (h ∙ rest-is i m s _ _ (f .1) (f .2) ∙ sym (hold-then C.Refused C.Passed (runRules i s) (restRules i m s) (f .0)))
+
+-- behind the runs
+module _ (i m : List ℕ) {set : SetRecord} (q : set ≡ recordOf i) (residues longest : ℕ) {c : Records} (e : c ≡ recordsTo i m (set .count)) where
+  records-here : c ≡ recordsTo i m (countOf i)
+  records-here = e ∙ ap (λ (x : SetRecord). recordsTo i m (x .count)) q
+
+  pub records-stopped : {r : Refusal} → c ≡ M.Refused r → C.Refused r ≡ checkedBy (behindRuns i m residues longest)
+  unfolding behindRuns
+  records-stopped p = sym (records-refused i m (countOf i) c records-here _ p (totalRules i m residues longest) C.Refused C.Passed)
+
+  pub records-passed : {x y z : ℕ} → c ≡ M.Longest x y z → {d : Checked} → d ≡ checkedBy (statedRules set residues longest x y z)
+      → d ≡ checkedBy (behindRuns i m residues longest)
+  unfolding behindRuns
+  records-passed p h =
+      let f = records-longest i m (countOf i) c records-here _ _ _ p in
+      h ∙ totals-are i m set residues longest _ _ _ q (f .1) (f .2) (f .3)
+      ∙ sym (hold-then C.Refused C.Passed (recordRules i m) (totalRules i m residues longest) (f .0))
+
+-- ---- the whole
+
+module _ (i m s : List ℕ) {a : Checked} (ea : a ≡ checkedBy (fileRules i m s)) where
+  pub files-stopped : {r : Refusal} → a ≡ C.Refused r → S.Refused r ≡ setCheck i m s
+  unfolding setCheck setRules
+  files-stopped p = stopped S.Refused (S.Passed (recordOf i)) (fileRules i m s) ea (layoutRules i s ++ contentRules i m s) p
+
+  module _ (pa : a ≡ C.Passed) {b : Checked} (eb : b ≡ checkedBy (layoutRules i s)) where
+    pub layout-stopped : {r : Refusal} → b ≡ C.Refused r → S.Refused r ≡ setCheck i m s
+    unfolding setCheck setRules
+    layout-stopped p =
+        passed S.Refused (S.Passed (recordOf i)) (fileRules i m s) ea (layoutRules i s ++ contentRules i m s) pa
+        (stopped S.Refused (S.Passed (recordOf i)) (layoutRules i s) eb (contentRules i m s) p)
+
+    -- the bounds that the content relies on
+    pub set-bounds : b ≡ C.Passed → (countOf i ≤ 134217728) × (length m ≤ 2147483647) × (length s ≤ 2147483647)
+    set-bounds p =
+        let z = small-files i m s (all-hold (fileRules i m s) a ea pa) in
+        (count-small i s (all-hold (layoutRules i s) b eb p), z .1, z .2)
+
+    module _ (pb : b ≡ C.Passed) {c : Checked} (ec : c ≡ checkedBy (contentRules i m s)) where
+      behind-layout : {d : _} → d ≡ verdict S.Refused (S.Passed (recordOf i)) (contentRules i m s) → d ≡ setCheck i m s
+      unfolding setCheck setRules
+      behind-layout h =
+          passed S.Refused (S.Passed (recordOf i)) (fileRules i m s) ea (layoutRules i s ++ contentRules i m s) pa
+          (passed S.Refused (S.Passed (recordOf i)) (layoutRules i s) eb (contentRules i m s) pb h)
+
+      pub content-stopped : {r : Refusal} → c ≡ C.Refused r → S.Refused r ≡ setCheck i m s
+      content-stopped p = behind-layout (stopped-last S.Refused (S.Passed (recordOf i)) (contentRules i m s) ec p)
+
+      pub set-passed : c ≡ C.Passed → {x : SetRecord} → x ≡ recordOf i → S.Passed x ≡ setCheck i m s
+      set-passed p q = ap S.Passed q ∙ behind-layout (passed-last S.Refused (S.Passed (recordOf i)) (contentRules i m s) ec p)
+
+-- ---- the lookup
+
+module _ (set : SetRecord) (i : List ℕ) (k : ℕ) (small : leb (length i) 2147483647 ≡ true) {a : Checked} (ea : a ≡ checkedBy (countRules (set .count) i)) where
+  abbrev behind : List (Rule Refusal)
+  behind = ask (ltb k (set .count)) NoSuchSequence ∷ (partRules i metadataTable k ++ partRules i packetTable k)
+
+  pub lookup-count-stopped : {r : Refusal} → a ≡ C.Refused r → L.Refused r ≡ lookupOf set i k
+  unfolding lookupOf lookupRules
+  lookup-count-stopped p = rw small (stopped L.Refused (foundAt i k) (countRules (set .count) i) ea behind p)
+
+  module _ (pa : a ≡ C.Passed) where
+    pub lookup-few : set .count ≤ 134217728
+    unfolding countRules
+    lookup-few = leb-true _ _ (all-hold (countRules (set .count) i) a ea pa .0)
+
+    pub number-stopped : ltb k (set .count) ≡ false → L.Refused NoSuchSequence ≡ lookupOf set i k
+    unfolding lookupOf lookupRules
+    number-stopped h = rw small (passed L.Refused (foundAt i k) (countRules (set .count) i) ea behind pa (rw h))
+
+    module _ (known : ltb k (set .count) ≡ true) {c : Part} (ec : c ≡ partOf i metadataTable k) where
+      behind-number : {d : _} → d ≡ verdict L.Refused (foundAt i k) (partRules i metadataTable k ++ partRules i packetTable k) → d ≡ lookupOf set i k
+      unfolding lookupOf lookupRules
+      behind-number h = rw small (passed L.Refused (foundAt i k) (countRules (set .count) i) ea behind pa (rw known h))
+
+      pub metadata-part-stopped : {r : Refusal} → c ≡ P.Refused r → L.Refused BadOffsets ≡ lookupOf set i k
+      metadata-part-stopped p = behind-number (sym (part-refused i metadataTable k c ec _ p (partRules i packetTable k) L.Refused (foundAt i k)))
+
+      module _ {x y : ℕ} (pc : c ≡ P.At x y) {b : Part} (eb : b ≡ partOf i packetTable k) where
+        behind-metadata-part : {d : _} → d ≡ verdict L.Refused (foundAt i k) (partRules i packetTable k) → d ≡ lookupOf set i k
+        behind-metadata-part h =
+            let f = part-found i metadataTable k c ec x y pc in
+            behind-number (h ∙ sym (hold-then L.Refused (foundAt i k) (partRules i metadataTable k) (partRules i packetTable k) (f .0)))
+
+        pub run-part-stopped : {r : Refusal} → b ≡ P.Refused r → L.Refused BadOffsets ≡ lookupOf set i k
+        run-part-stopped p = behind-metadata-part (sym (part-last i packetTable k b eb _ p L.Refused (foundAt i k)))
+
+        pub lookup-found : {z w : ℕ} → b ≡ P.At z w → L.Found (record { 0 = x }) y (record { 0 = z }) w ≡ lookupOf set i k
+        lookup-found {z} {w} p =
+            let f = part-found i metadataTable k c ec x y pc in
+            let g = part-found i packetTable k b eb z w p in
+            rw (f .1, f .2, g .1, g .2)
+            (behind-metadata-part (sym (verdict-passes L.Refused (foundAt i k) (partRules i packetTable k) (g .0))))

@@ -1,0 +1,29 @@
+-- `dsqdata::check_metadata_ends`: the record's count is the index's. Assumes nothing.
+use mathlib.Core.Path.{_≡_, ap}
+use native.Mathlib.Omega.{arith}
+use denote.Ref.{now}
+use Rattle.dsqdata.specs.declared.SetRecord.{SetRecord}
+use Rattle.dsqdata.specs.Header.{countOf, bytesAfterHeader}
+use Rattle.dsqdata.specs.Ends.{metadataTable}
+use Rattle.dsqdata.proofs.Parted.{ends-here}
+use borrow.Author.Needs.{needs}
+use Rattle.dsqdata.proofs.check_metadata_ends.Statement.{statement}
+use Rattle.dsqdata.proofs.check_metadata_ends.Tie as tie
+
+bytes-after-header-requires : tie.Need-bytes-after-header-requires
+bytes-after-header-requires c κs = search needs
+
+check-ends-requires : tie.Need-check-ends-requires
+check-ends-requires c κs =
+    let a = (c .before .before .before .args) in
+    let n : a .set .count ≡ countOf (now (a .index)) = ap (λ (x : SetRecord). x .count) ((c .before .before .before .pre) .0) in
+    (omega arith, omega (arith, (c .before .before .before .pre) .1))
+
+returns : tie.Need-returns
+returns c =
+    let a = (c .before .before .before .before .args) in
+    ends-here (now (a .index)) metadataTable (bytesAfterHeader (now (a .metadata))) ((c .before .before .before .before .pre) .0) ((c .before .bytes-after-header) .ensures) ((c .check-ends) .ensures)
+
+pub check-metadata-ends-spec : {M : Type 1} → statement M
+check-metadata-ends-spec =
+    tie.close (tie.spec bytes-after-header-requires check-ends-requires returns)
