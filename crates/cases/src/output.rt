@@ -7,9 +7,9 @@ use libc::STDOUT_FILENO;
 fn digit(n: u8) -> u8 {
     let d = n % 16;
     if d < 10 {
-        return 48 + d;
+        return b'0' + d;
     }
-    87 + d
+    b'a' + (d - 10)
 }
 
 pub fn put_text(text: &[u8]) {

@@ -36,11 +36,11 @@ module _ {A : Type 0} (refused : Refusal → A) (number : A → ℕ) (values : A
   told-refused r n e d h =
       all-refused r n e (last-unasked refused passed rules (roomFor count (length results)) NoRoom r (k .apart r) d h)
 
-  -- without room what passed is 13
-  pub told-short : (x : A) → ((r : Refusal) → refused r ≡ x → ⊥) → roomFor count (length results) ≡ false → verdict refused passed rules ≡ x
-      → (13 ≡ number answer) × (results ≡ resultsPut (values answer) results)
-  told-short x d room h =
-      all-refused NoRoom 13 refl (last-broken refused passed rules (roomFor count (length results)) NoRoom x d room h)
+  -- without room what passed is refused for that
+  pub told-short : (x : A) (n : ℕ) → n ≡ numberOf NoRoom → ((r : Refusal) → refused r ≡ x → ⊥) → roomFor count (length results) ≡ false → verdict refused passed rules ≡ x
+      → (n ≡ number answer) × (results ≡ resultsPut (values answer) results)
+  told-short x n e d room h =
+      all-refused NoRoom n e (last-broken refused passed rules (roomFor count (length results)) NoRoom x d room h)
 
   -- with room it is the answer of the check, and its values
   pub told-passed : (x : A) (told : List ℕ) → roomFor count (length results) ≡ true → verdict refused passed rules ≡ x → number x ≡ 0

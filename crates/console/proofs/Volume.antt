@@ -35,11 +35,12 @@ module _ (index sequence header results : List ℕ) where
       told-refused Refused volumeNumber volumeValues answers (Passed (volumeRecord index)) (volumeRules index sequence header) 8 results r n e
       (λ k. passed-not (volumeRecord index) r (sym k)) h
 
-  pub volume-short : (v : VolumeRecord) → roomFor 8 (length results) ≡ false → volumeAnswer index sequence header ≡ Passed v
-      → (13 ≡ volumeNumber answer) × (results ≡ volumeResults answer results)
+  pub volume-short : (v : VolumeRecord) (n : ℕ) → n ≡ numberOf NoRoom → roomFor 8 (length results) ≡ false → volumeAnswer index sequence header ≡ Passed v
+      → (n ≡ volumeNumber answer) × (results ≡ volumeResults answer results)
   unfolding consoleVolume volumeAnswer
-  volume-short v room h =
-      told-short Refused volumeNumber volumeValues answers (Passed (volumeRecord index)) (volumeRules index sequence header) 8 results (Passed v) (passed-not v) room h
+  volume-short v n e room h =
+      told-short Refused volumeNumber volumeValues answers (Passed (volumeRecord index)) (volumeRules index sequence header) 8 results (Passed v) n e
+      (passed-not v) room h
 
   pub volume-passed : (v : VolumeRecord) (told : List ℕ) → roomFor 8 (length results) ≡ true → volumeAnswer index sequence header ≡ Passed v
       → told ≡ resultsPut (recordValues v) results → (0 ≡ volumeNumber answer) × (told ≡ volumeResults answer results)

@@ -1,6 +1,7 @@
 // The console's calls: numbers and byte ranges in, an answer number out, results as eight-byte little-endian numbers.
 mod results;
 
+use answers::Refusal;
 use byte_runs::unpack_bytes_answer;
 use packets::PacketPos;
 pub use results::put_results;
@@ -12,6 +13,13 @@ ghost use lib.ListN.{length};
 ghost use Rattle.runs.specs.Answers.{packNumber, unpackNumber};
 ghost use Rattle.console.specs.Calls.{consolePack, consoleBuffer, packResults, consoleUnpack, consoleCodes, unpackResults, consoleVolume, volumeResults};
 ghost use Rattle.volume.specs.Volume.{volumeNumber};
+
+// The bytes that the results of each call take.
+const PACK_RESULTS: usize = 16;
+
+const UNPACK_RESULTS: usize = 16;
+
+const CHECK_VOLUME_RESULTS: usize = 64;
 
 // Packs residue codes as one run of little-endian packets at a place, counted in packets, of a buffer.
 #[no_mangle]
@@ -26,7 +34,7 @@ pub extern "C" fn gull_pack(
     ensures buffer { λ _. ⌜ now (buffer .exit) ≡ consoleBuffer alphabet (now (codes .entry)) (now (buffer .entry)) place (length (now (results .entry))) ⌝ }
     ensures results { λ _. ⌜ now (results .exit) ≡ packResults (consolePack alphabet (now (codes .entry)) (now (buffer .entry)) place (length (now (results .entry)))) (now (results .entry)) ⌝ }
 {
-    if results.len() < 16 {
+    if results.len() < PACK_RESULTS {
         // nothing may be written: only the answer is wanted
         let room = buffer.len() / 4;
         let PackAnswer::Refused(r) = runs::pack_answer(
@@ -35,7 +43,7 @@ pub extern "C" fn gull_pack(
             room as u64,
             PacketPos(place),
         ) else {
-            return 13;
+            return answers::number(Refusal::NoRoom);
         };
         return answers::number(r);
     }
@@ -61,9 +69,9 @@ pub extern "C" fn gull_unpack(
     ensures codes { λ _. ⌜ now (codes .exit) ≡ consoleCodes alphabet (now (packets .entry)) (now (codes .entry)) (length (now (results .entry))) ⌝ }
     ensures results { λ _. ⌜ now (results .exit) ≡ unpackResults (consoleUnpack alphabet (now (packets .entry)) (length (now (codes .entry))) (length (now (results .entry)))) (now (results .entry)) ⌝ }
 {
-    if results.len() < 16 {
+    if results.len() < UNPACK_RESULTS {
         let UnpackAnswer::Refused(r) = unpack_bytes_answer(alphabet, packets, codes.len()) else {
-            return 13;
+            return answers::number(Refusal::NoRoom);
         };
         return answers::number(r);
     }
@@ -91,8 +99,8 @@ pub extern "C" fn gull_check_volume(
     match volume::check_volume(index, sequence, header) {
         VolumeAnswer::Refused(r) => answers::number(r),
         VolumeAnswer::Passed(v) => {
-            if results.len() < 64 {
-                return 13;
+            if results.len() < CHECK_VOLUME_RESULTS {
+                return answers::number(Refusal::NoRoom);
             }
             let fields = [
                 v.kind as u64,

@@ -49,8 +49,10 @@ module _ (set : SetRecord) (i : List ℕ) (k : ℕ) where
   unfolding lookupOf lookupRules countRules
   found-rules a b p c h =
       let v = passes-with Refused (foundAt i k) (Found a b p c) (λ r e. let z : _≡_ {A = ℕ} 0 1 = cc in omega arith) (lookupRules set i k) h in
-      let n = hold-first (countRules (set .count) i) (ask (ltb k (set .count)) NoSuchSequence ∷ (partRules i metadataTable k ++ partRules i packetTable k)) (v .0 .1) in
-      let w = hold-second (countRules (set .count) i) (ask (ltb k (set .count)) NoSuchSequence ∷ (partRules i metadataTable k ++ partRules i packetTable k)) (v .0 .1) in (
+      let n = hold-first (countRules (set .count) i) (ask (ltb k (set .count)) NoSuchSequence ∷ (partRules i metadataTable k ++ partRules i packetTable k))
+      (v .0 .1) in
+      let w = hold-second (countRules (set .count) i) (ask (ltb k (set .count)) NoSuchSequence ∷ (partRules i metadataTable k ++ partRules i packetTable k))
+      (v .0 .1) in (
         record {
           fits = leb-true _ _ (v .0 .0);
           few = leb-true _ _ (n .0);
@@ -74,7 +76,8 @@ module _ (set : SetRecord) (i : List ℕ) (k : ℕ) where
         hold-append (countRules (set .count) i) (ask (ltb k (set .count)) NoSuchSequence ∷ (partRules i metadataTable k ++ partRules i packetTable k))
             (le-leb _ _ (r .few), (le-leb _ _ low, (le-leb _ _ high, tt))) (
               lt-ltb _ _ (r .known),
-              hold-append (partRules i metadataTable k) (partRules i packetTable k) (rule-part i metadataTable k (r .metadataPart)) (rule-part i packetTable k (r .runPart)),
+              hold-append (partRules i metadataTable k) (partRules i packetTable k) (rule-part i metadataTable k (r .metadataPart))
+                  (rule-part i packetTable k (r .runPart)),
             ),
       )
 
@@ -115,12 +118,14 @@ module _ (i m s : List ℕ) (x : SetRecord) (h : setCheck i m s ≡ A.Passed x) 
   found-run =
       let p = passed-rules i m s x h in
       let r = p .0 .packetEnds in
-      let u = above (endBefore i packetTable k) (endBefore i packetTable (suc k)) (end-low i packetTable (countOf i) (r .rises) k (omega arith)) (r .rises k l) in
+      let u = above (endBefore i packetTable k) (endBefore i packetTable (suc k)) (end-low i packetTable (countOf i) (r .rises) k (omega arith))
+      (r .rises k l) in
       run-is i s k (startAt i packetTable k) (startAt i packetTable k + lengthAt i packetTable k) refl (omega arith)
 
   -- .. and its metadata ends where that of the next begins.
   pub found-metadata : 8 + startAt i metadataTable k + lengthAt i metadataTable k ≡ metadataStart i (suc k)
   found-metadata =
       let r = passed-rules i m s x h .0 .others .metadataEnds in
-      let u = above (endBefore i metadataTable k) (endBefore i metadataTable (suc k)) (end-low i metadataTable (countOf i) (r .rises) k (omega arith)) (r .rises k l) in
+      let u = above (endBefore i metadataTable k) (endBefore i metadataTable (suc k)) (end-low i metadataTable (countOf i) (r .rises) k (omega arith))
+      (r .rises k l) in
       omega arith

@@ -126,4 +126,11 @@ module _ (index sequence : List ℕ) (k : ℕ) where
   residues-most =
       let f = after (endBefore index packetTable k) in
       let t = after (endBefore index packetTable (suc k)) in
-      omega (arith, unpacked-most (slice f t (bodyOf sequence)), length-drop f (take t (bodyOf sequence)), length-take t (bodyOf sequence), body-length sequence)
+      omega (
+        arith,
+        unpacked-most (slice f t (bodyOf sequence)),
+        length-drop f (take t (bodyOf sequence)),
+        length-take t
+            (bodyOf sequence),
+        body-length sequence,
+      )

@@ -28,7 +28,9 @@ use Rattle.dsqdata.specs.declared.SetAnswer.the-variants.{Passed, Refuse
 use Rattle.dsqdata.specs.Header.{alphabetOf, countOf, recordOf, bytesAfterHeader, packetsIn}
 use Rattle.dsqdata.specs.Ends.{metadataTable, packetTable, runAt, metadataStart}
 use Rattle.dsqdata.specs.Records.{textsAt, nameAt, accessionAt, descriptionAt}
-use Rattle.dsqdata.specs.Check.{sizeRules, startRules, tagRules, fileRules, headerRules, countRules, bodyRules, layoutRules, metadataEndsRules, packetEndsRules, rulesOfRun, runRules, rulesOfRecord, recordRules, statedRules, totalRules, behindRuns, restRules, contentRules, setRules, otherRules, setCheck, setNumber, setValues, setRecordValues}
+use Rattle.dsqdata.specs.Check.{sizeRules, startRules, tagRules, fileRules, headerRules, countRules, bodyRules, layoutRules, metadataEndsRules}
+use Rattle.dsqdata.specs.Check.{packetEndsRules, rulesOfRun, runRules, rulesOfRecord, recordRules, statedRules, totalRules, behindRuns}
+use Rattle.dsqdata.specs.Check.{restRules, contentRules, setRules, otherRules, setCheck, setNumber, setValues, setRecordValues}
 use Rattle.dsqdata.specs.Rules.{OtherRules, SetRules}
 use Rattle.dsqdata.proofs.EachRule.{rules-at, rules-all}
 use Rattle.dsqdata.proofs.Rising.{ends-rule, rule-ends}
@@ -48,7 +50,8 @@ good-texts (Lengths n a d) h = refl
 good-texts Bad h = never h
 
 module _ (i m : List ℕ) (k : ℕ) where
-  record-rule : AllHold (rulesOfRecord i m k) → MetadataRule m (metadataStart i k) (metadataStart i (suc k)) (nameAt i m k) (accessionAt i m k) (descriptionAt i m k)
+  record-rule : AllHold (rulesOfRecord i m k)
+      → MetadataRule m (metadataStart i k) (metadataStart i (suc k)) (nameAt i m k) (accessionAt i m k) (descriptionAt i m k)
   unfolding rulesOfRecord textsAt
   record-rule h =
       texts-rule m (metadataStart i k) (metadataStart i (suc k)) _ _ _ (good-texts (textsIn m (metadataStart i k) (metadataStart i (suc k))) (h .0))
@@ -149,8 +152,10 @@ module _ (i m s : List ℕ) where
           ),
         ),
       )
-      (hold-append (layoutRules i s) (metadataEndsRules i m ++ restRules i m s)
-      (rule-alphabet (alphabetOf i) (r .alphabet), (eq-eqb _ _ (r .flags), (le-leb _ _ (r .few), (le-leb _ _ low, (le-leb _ _ high, (eq-eqb _ _ (r .bodyWhole), tt))))))
+      (hold-append (layoutRules i s) (metadataEndsRules i m ++ restRules i m s) (
+        rule-alphabet (alphabetOf i) (r .alphabet),
+        (eq-eqb _ _ (r .flags), (le-leb _ _ (r .few), (le-leb _ _ low, (le-leb _ _ high, (eq-eqb _ _ (r .bodyWhole), tt))))),
+      )
       (hold-append (metadataEndsRules i m) (restRules i m s)
       (rule-ends i metadataTable (countOf i) (bytesAfterHeader m) (r .metadataEnds))
       (hold-append (recordRules i m) (totalRules i m _ _)

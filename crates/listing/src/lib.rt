@@ -42,7 +42,7 @@ fn digit(n: usize) -> u8
     requires { ⌜ n < 10 ⌝ }
     ensures { λ r. ⌜ r ≡ digitOf n ⌝ }
 {
-    48 + n as u8
+    b'0' + n as u8
 }
 
 // Puts a number in base ten: its last digit behind those of a tenth of it.
@@ -81,10 +81,10 @@ fn put_head(out: &mut [u8], v: VolumeRecord) -> usize
     requires { ⌜ length (headText v) ≤ length (now out) ⌝ }
     ensures { λ r. ⌜ Put (now (out .entry)) 0 (headText v) (now (out .exit)) r ⌝ }
 {
-    let numbers = put_type(out, v.kind);
-    let residues = put_number(out, numbers, v.sequences, b' ');
-    let longest = put_number(out, residues, v.residues, b' ');
-    put_number(out, longest, v.longest, b'\n')
+    let after_type = put_type(out, v.kind);
+    let after_sequences = put_number(out, after_type, v.sequences, b' ');
+    let after_residues = put_number(out, after_sequences, v.residues, b' ');
+    put_number(out, after_residues, v.longest, b'\n')
 }
 
 // Puts the line of a sequence.

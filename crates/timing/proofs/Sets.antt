@@ -6,6 +6,7 @@ use Prim.Native.Nat.{ℕ}
 use native.Mathlib.Omega.{arith}
 use lib.ListN.{length}
 use Rattle.answers.specs.Numbers.{numberOf}
+use Rattle.answers.specs.declared.Refusal.the-variants.{NoRoom}
 use Rattle.answers.specs.declared.Refusal.{Refusal}
 use Rattle.dsqdata.specs.Header.{recordOf}
 use Rattle.dsqdata.specs.Check.{setRules, setCheck, setNumber, setValues, setRecordValues}
@@ -33,11 +34,12 @@ module _ (index metadata sequence results : List ℕ) where
       told-refused Refused setNumber setValues answers (Passed (recordOf index)) (setRules index metadata sequence) 10 results r n e
       (λ k. passed-not (recordOf index) r (sym k)) h
 
-  pub set-short : (set : SetRecord) → roomFor 10 (length results) ≡ false → setCheck index metadata sequence ≡ Passed set
-      → (13 ≡ setNumber answer) × (results ≡ setResults answer results)
+  pub set-short : (set : SetRecord) (n : ℕ) → n ≡ numberOf NoRoom → roomFor 10 (length results) ≡ false → setCheck index metadata sequence ≡ Passed set
+      → (n ≡ setNumber answer) × (results ≡ setResults answer results)
   unfolding timedSet setCheck
-  set-short set room h =
-      told-short Refused setNumber setValues answers (Passed (recordOf index)) (setRules index metadata sequence) 10 results (Passed set) (passed-not set) room h
+  set-short set n e room h =
+      told-short Refused setNumber setValues answers (Passed (recordOf index)) (setRules index metadata sequence) 10 results (Passed set) n e
+      (passed-not set) room h
 
   pub set-passed : (set : SetRecord) (told : List ℕ) → roomFor 10 (length results) ≡ true → setCheck index metadata sequence ≡ Passed set
       → told ≡ resultsPut (setRecordValues set) results → (0 ≡ setNumber answer) × (told ≡ setResults answer results)

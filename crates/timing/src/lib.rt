@@ -1,4 +1,5 @@
 // Calls that the C face lacks, exported for the benchmark and the tests alone. They are never linked into the library.
+use answers::Refusal;
 use dsqdata::SetAnswer;
 use sequence::DecodeAnswer;
 ghost use mathlib.Core.Path.{_≡_};
@@ -6,6 +7,9 @@ ghost use lib.ListN.{length};
 ghost use Rattle.dsqdata.specs.Check.{setNumber};
 ghost use Rattle.sequence.specs.Sequence.{decodeAnswer, decodeOutput, decodeNumber};
 ghost use Rattle.timing.specs.Calls.{timedSet, setResults};
+
+// The bytes that the results of a set check take.
+const CHECK_SET_RESULTS: usize = 80;
 
 // Checks a set: its index, metadata and sequence file. The results are the ten header fields.
 #[no_mangle]
@@ -21,8 +25,8 @@ pub extern "C" fn gull_time_check_set(
     match dsqdata::check_set(index, metadata, sequence) {
         SetAnswer::Refused(r) => answers::number(r),
         SetAnswer::Passed(set) => {
-            if results.len() < 80 {
-                return 13;
+            if results.len() < CHECK_SET_RESULTS {
+                return answers::number(Refusal::NoRoom);
             }
             let values = [
                 set.magic as u64,

@@ -19,10 +19,14 @@ number-requires c κs = search needs
 enum-known-v : tie.Need-enum-known-v
 enum-known-v c = search needs
 
+number-requires-2 : tie.Need-number-requires-2
+number-requires-2 c κs = search needs
+
 returns : tie.Need-returns
 returns c =
-    let a = (c .before .before .before .before .before .before .before .before .before .args) in
-    volume-short (now (a .index)) (now (a .sequence)) (now (a .header)) (now (a .results)) _ (lt-leb 64 _ ((c .if1) .taken)) (sym ((c .before .before .before .before .check-volume) .ensures) ∙ (c .before .before .v) .given .1)
+    let a = (c .before .before .before .before .before .before .before .before .before .before .args) in
+    volume-short (now (a .index)) (now (a .sequence)) (now (a .header)) (now (a .results)) _ _ ((c .number2) .ensures) (lt-leb 64 _ ((c .before .if1) .taken))
+    (sym ((c .before .before .before .before .before .check-volume) .ensures) ∙ (c .before .before .before .v) .given .1)
 
 slice-aggregate-put-results : tie.Need-slice-aggregate-put-results
 slice-aggregate-put-results c = search needs
@@ -33,7 +37,8 @@ put-results-requires c κs = search needs
 returns-2 : tie.Need-returns-2
 returns-2 c =
     let a = (c .before .before .before .before .before .before .before .before .before .args) in
-    volume-refused (now (a .index)) (now (a .sequence)) (now (a .header)) (now (a .results)) _ _ ((c .number) .ensures) (sym ((c .before .before .before .before .check-volume) .ensures) ∙ (c .before .before .r) .given .1)
+    volume-refused (now (a .index)) (now (a .sequence)) (now (a .header)) (now (a .results)) _ _ ((c .number) .ensures)
+    (sym ((c .before .before .before .before .check-volume) .ensures) ∙ (c .before .before .r) .given .1)
 
 same-length : tie.Need-same-length
 same-length c = search needs
@@ -41,7 +46,10 @@ same-length c = search needs
 returns-3 : tie.Need-returns-3
 returns-3 c =
     let a = (c .before .before .before .before .before .before .before .before .before .before .before .before .before .before .args) in
-    volume-passed (now (a .index)) (now (a .sequence)) (now (a .header)) (now (a .results)) _ _ (le-leb 64 _ ((c .before .before .before .before .before .if1) .left)) (sym ((c .before .before .before .before .before .before .before .before .before .check-volume) .ensures) ∙ (c .before .before .before .before .before .before .before .v) .given .1) ((c .before .before .put-results) .ensures)
+    volume-passed (now (a .index)) (now (a .sequence)) (now (a .header)) (now (a .results)) _ _
+    (le-leb 64 _ ((c .before .before .before .before .before .if1) .left))
+    (sym ((c .before .before .before .before .before .before .before .before .before .check-volume) .ensures) ∙
+    (c .before .before .before .before .before .before .before .v) .given .1) ((c .before .before .put-results) .ensures)
 
 pub gull-check-volume-spec : {M : Type 1} → statement M
 gull-check-volume-spec =
@@ -51,6 +59,7 @@ gull-check-volume-spec =
     enum-known-r
     number-requires
     enum-known-v
+    number-requires-2
     returns
     slice-aggregate-put-results
     put-results-requires

@@ -45,9 +45,16 @@ enum-told-2 c = search needs
 check-runs-requires : tie.Need-check-runs-requires
 check-runs-requires c κs =
     let a = (c .before .before .before .before .before .before .before .before .before .args) in
-    let n : a .set .count ≡ countOf (now (a .index)) = ap (λ (x : SetRecord). x .count) ((c .before .before .before .before .before .before .before .before .before .pre) .0 .0) in
-    let h = all-hold (packetEndsRules (now (a .index)) (now (a .sequence))) _ ((c .before .before .check-packet-ends) .ensures) ((c .enum-told2) .given .1) in
-    ((omega (arith, (c .before .before .before .before .before .before .before .before .before .pre) .0 .1), omega (arith, (c .before .before .before .before .before .before .before .before .before .pre) .1 .1)), rw n h)
+    let n : a .set .count ≡ countOf (now (a .index)) = ap (λ (x : SetRecord). x .count)
+    ((c .before .before .before .before .before .before .before .before .before .pre) .0 .0) in
+    let h = all-hold (packetEndsRules (now (a .index)) (now (a .sequence))) _ ((c .before .before .check-packet-ends) .ensures) ((c .enum-told2) .given .1) in (
+      (
+        omega (arith, (c .before .before .before .before .before .before .before .before .before .pre) .0 .1),
+        omega
+            (arith, (c .before .before .before .before .before .before .before .before .before .pre) .1 .1),
+      ),
+      rw n h,
+    )
 
 enum-known-runs : tie.Need-enum-known-runs
 enum-known-runs c = search needs
@@ -58,24 +65,37 @@ enum-known-runs-2 c = search needs
 check-rest-requires : tie.Need-check-rest-requires
 check-rest-requires c κs =
     let a = (c .before .before .before .before .before .before .before .before .before .before .before .before .before .args) in
-    let h = all-hold (metadataEndsRules (now (a .index)) (now (a .metadata))) _ ((c .before .before .before .before .before .before .before .before .before .check-metadata-ends) .ensures) ((c .before .before .before .before .before .before .before .enum-told) .given .1) in
-    (((c .before .before .before .before .before .before .before .before .before .before .before .before .before .pre) .0 .0, (c .before .before .before .before .before .before .before .before .before .before .before .before .before .pre) .0 .1, (c .before .before .before .before .before .before .before .before .before .before .before .before .before .pre) .1 .0), h)
+    let h = all-hold (metadataEndsRules (now (a .index)) (now (a .metadata))) _
+    ((c .before .before .before .before .before .before .before .before .before .check-metadata-ends) .ensures)
+    ((c .before .before .before .before .before .before .before .enum-told) .given .1) in (
+      (
+        (c .before .before .before .before .before .before .before .before .before .before .before .before .before .pre) .0 .0,
+        (c .before .before .before .before .before .before .before .before .before .before .before .before .before .pre) .0 .1,
+        (c .before .before .before .before .before .before .before .before .before .before .before .before .before .pre) .1 .0,
+      ),
+      h,
+    )
 
 returns-3 : tie.Need-returns-3
 returns-3 c =
     let a = (c .before .before .before .before .before .before .before .before .before .before .before .before .before .args) in
     runs-stopped (now (a .index)) (now (a .metadata)) (now (a .sequence))
-    ((c .before .before .before .before .before .before .before .before .before .check-metadata-ends) .ensures) ((c .before .before .before .before .before .before .before .enum-told) .given .1)
+    ((c .before .before .before .before .before .before .before .before .before .check-metadata-ends) .ensures)
+    ((c .before .before .before .before .before .before .before .enum-told) .given .1)
     ((c .before .before .before .before .before .before .check-packet-ends) .ensures) ((c .before .before .before .before .enum-told2) .given .1)
-    ((c .before .before .before .before .before .before .before .before .before .before .before .before .before .pre) .0 .0) ((c .before .before .before .check-runs) .ensures) ((c .before .runs) .given .1)
+    ((c .before .before .before .before .before .before .before .before .before .before .before .before .before .pre) .0 .0)
+    ((c .before .before .before .check-runs) .ensures) ((c .before .runs) .given .1)
 
 returns-4 : tie.Need-returns-4
 returns-4 c =
     let a = (c .before .before .before .before .before .before .before .before .before .before .before .before .before .before .args) in
     content-passed (now (a .index)) (now (a .metadata)) (now (a .sequence))
-    ((c .before .before .before .before .before .before .before .before .before .before .check-metadata-ends) .ensures) ((c .before .before .before .before .before .before .before .before .enum-told) .given .1)
-    ((c .before .before .before .before .before .before .before .check-packet-ends) .ensures) ((c .before .before .before .before .before .enum-told2) .given .1)
-    ((c .before .before .before .before .before .before .before .before .before .before .before .before .before .before .pre) .0 .0) ((c .before .before .before .before .check-runs) .ensures) ((c .before .before .runs2) .given .1) ((c .check-rest) .ensures)
+    ((c .before .before .before .before .before .before .before .before .before .before .check-metadata-ends) .ensures)
+    ((c .before .before .before .before .before .before .before .before .enum-told) .given .1)
+    ((c .before .before .before .before .before .before .before .check-packet-ends) .ensures)
+    ((c .before .before .before .before .before .enum-told2) .given .1)
+    ((c .before .before .before .before .before .before .before .before .before .before .before .before .before .before .pre) .0 .0)
+    ((c .before .before .before .before .check-runs) .ensures) ((c .before .before .runs2) .given .1) ((c .check-rest) .ensures)
 
 pub check-content-spec : {M : Type 1} → statement M
 check-content-spec =

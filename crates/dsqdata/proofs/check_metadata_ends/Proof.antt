@@ -22,7 +22,8 @@ check-ends-requires c κs =
 returns : tie.Need-returns
 returns c =
     let a = (c .before .before .before .before .args) in
-    ends-here (now (a .index)) metadataTable (bytesAfterHeader (now (a .metadata))) ((c .before .before .before .before .pre) .0) ((c .before .bytes-after-header) .ensures) ((c .check-ends) .ensures)
+    ends-here (now (a .index)) metadataTable (bytesAfterHeader (now (a .metadata))) ((c .before .before .before .before .pre) .0)
+    ((c .before .bytes-after-header) .ensures) ((c .check-ends) .ensures)
 
 pub check-metadata-ends-spec : {M : Type 1} → statement M
 check-metadata-ends-spec =

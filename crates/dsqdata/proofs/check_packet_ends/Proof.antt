@@ -23,7 +23,8 @@ check-ends-requires c κs =
 returns : tie.Need-returns
 returns c =
     let a = (c .before .before .before .before .args) in
-    ends-here (now (a .index)) packetTable (packetsIn (now (a .sequence))) ((c .before .before .before .before .pre) .0) (ap (λ (x : ℕ). x / 4) ((c .before .bytes-after-header) .ensures)) ((c .check-ends) .ensures)
+    ends-here (now (a .index)) packetTable (packetsIn (now (a .sequence))) ((c .before .before .before .before .pre) .0)
+    (ap (λ (x : ℕ). x / 4) ((c .before .bytes-after-header) .ensures)) ((c .check-ends) .ensures)
 
 pub check-packet-ends-spec : {M : Type 1} → statement M
 check-packet-ends-spec =

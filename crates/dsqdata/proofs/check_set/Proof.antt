@@ -54,7 +54,8 @@ returns-3 : tie.Need-returns-3
 returns-3 c =
     let a = (c .before .before .before .before .before .before .before .before .before .before .before .before .before .before .args) in
     content-stopped (now (a .index)) (now (a .metadata)) (now (a .sequence))
-    ((c .before .before .before .before .before .before .before .before .before .before .check-files) .ensures) ((c .before .before .before .before .before .before .before .before .enum-told) .given .1)
+    ((c .before .before .before .before .before .before .before .before .before .before .check-files) .ensures)
+    ((c .before .before .before .before .before .before .before .before .enum-told) .given .1)
     ((c .before .before .before .before .before .before .check-layout) .ensures) ((c .before .before .before .before .enum-told2) .given .1)
     ((c .before .before .before .check-content) .ensures) ((c .before .content) .given .1)
 
@@ -65,7 +66,8 @@ returns-4 : tie.Need-returns-4
 returns-4 c =
     let a = (c .before .before .before .before .before .before .before .before .before .before .before .before .before .args) in
     set-passed (now (a .index)) (now (a .metadata)) (now (a .sequence))
-    ((c .before .before .before .before .before .before .before .before .before .check-files) .ensures) ((c .before .before .before .before .before .before .before .enum-told) .given .1)
+    ((c .before .before .before .before .before .before .before .before .before .check-files) .ensures)
+    ((c .before .before .before .before .before .before .before .enum-told) .given .1)
     ((c .before .before .before .before .before .check-layout) .ensures) ((c .before .before .before .enum-told2) .given .1)
     ((c .before .before .check-content) .ensures) ((c .enum-told3) .given .1) ((c .before .before .before .before .before .before .read-record) .ensures)
 

@@ -21,7 +21,8 @@ enum-known-counted c = search needs
 returns-2 : tie.Need-returns-2
 returns-2 c =
     let a = (c .before .before .before .before .before .before .args) in
-    lookup-count-stopped (a .set) (now (a .index)) (a .number) (le-leb _ _ ((c .before .before .before .before .if1) .left)) ((c .before .before .before .check-count) .ensures)
+    lookup-count-stopped (a .set) (now (a .index)) (a .number) (le-leb _ _ ((c .before .before .before .before .if1) .left))
+    ((c .before .before .before .check-count) .ensures)
     ((c .before .counted) .given .1)
 
 enum-told : tie.Need-enum-told
@@ -30,13 +31,15 @@ enum-told c = search needs
 returns-3 : tie.Need-returns-3
 returns-3 c =
     let a = (c .before .before .before .before .before .before .before .args) in
-    number-stopped (a .set) (now (a .index)) (a .number) (le-leb _ _ ((c .before .before .before .before .before .if1) .left)) ((c .before .before .before .before .check-count) .ensures)
+    number-stopped (a .set) (now (a .index)) (a .number) (le-leb _ _ ((c .before .before .before .before .before .if1) .left))
+    ((c .before .before .before .before .check-count) .ensures)
     ((c .before .before .enum-told) .given .1) (le-ltb _ _ ((c .if2) .taken))
 
 part-at-requires : tie.Need-part-at-requires
 part-at-requires c κs =
     let a = (c .before .before .before .before .before .before .before .args) in
-    let few = lookup-few (a .set) (now (a .index)) (a .number) (le-leb _ _ ((c .before .before .before .before .before .if1) .left)) ((c .before .before .before .before .check-count) .ensures)
+    let few = lookup-few (a .set) (now (a .index)) (a .number) (le-leb _ _ ((c .before .before .before .before .before .if1) .left))
+    ((c .before .before .before .before .check-count) .ensures)
     ((c .before .before .enum-told) .given .1) in
     (omega arith, omega arith)
 
@@ -49,13 +52,17 @@ enum-told-2 c = search needs
 returns-4 : tie.Need-returns-4
 returns-4 c =
     let a = (c .before .before .before .before .before .before .before .before .before .before .args) in
-    metadata-part-stopped (a .set) (now (a .index)) (a .number) (le-leb _ _ ((c .before .before .before .before .before .before .before .before .if1) .left)) ((c .before .before .before .before .before .before .before .check-count) .ensures)
-    ((c .before .before .before .before .before .enum-told) .given .1) (lt-ltb _ _ ((c .before .before .before .if2) .left)) ((c .before .before .part-at) .ensures) ((c .enum-told2) .given .1)
+    metadata-part-stopped (a .set) (now (a .index)) (a .number) (le-leb _ _ ((c .before .before .before .before .before .before .before .before .if1) .left))
+    ((c .before .before .before .before .before .before .before .check-count) .ensures)
+    ((c .before .before .before .before .before .enum-told) .given .1) (lt-ltb _ _ ((c .before .before .before .if2) .left))
+    ((c .before .before .part-at) .ensures) ((c .enum-told2) .given .1)
 
 part-at-requires-2 : tie.Need-part-at-requires-2
 part-at-requires-2 c κs =
     let a = (c .before .before .before .before .before .before .before .before .before .before .before .args) in
-    let few = lookup-few (a .set) (now (a .index)) (a .number) (le-leb _ _ ((c .before .before .before .before .before .before .before .before .before .if1) .left)) ((c .before .before .before .before .before .before .before .before .check-count) .ensures)
+    let few = lookup-few (a .set) (now (a .index)) (a .number)
+    (le-leb _ _ ((c .before .before .before .before .before .before .before .before .before .if1) .left))
+    ((c .before .before .before .before .before .before .before .before .check-count) .ensures)
     ((c .before .before .before .before .before .before .enum-told) .given .1) in
     (omega arith, omega arith)
 
@@ -68,15 +75,23 @@ enum-told-3 c = search needs
 returns-5 : tie.Need-returns-5
 returns-5 c =
     let a = (c .before .before .before .before .before .before .before .before .before .before .before .before .before .before .args) in
-    run-part-stopped (a .set) (now (a .index)) (a .number) (le-leb _ _ ((c .before .before .before .before .before .before .before .before .before .before .before .before .if1) .left)) ((c .before .before .before .before .before .before .before .before .before .before .before .check-count) .ensures)
-    ((c .before .before .before .before .before .before .before .before .before .enum-told) .given .1) (lt-ltb _ _ ((c .before .before .before .before .before .before .before .if2) .left)) ((c .before .before .before .before .before .before .part-at) .ensures)
+    run-part-stopped (a .set) (now (a .index)) (a .number)
+    (le-leb _ _ ((c .before .before .before .before .before .before .before .before .before .before .before .before .if1) .left))
+    ((c .before .before .before .before .before .before .before .before .before .before .before .check-count) .ensures)
+    ((c .before .before .before .before .before .before .before .before .before .enum-told) .given .1)
+    (lt-ltb _ _ ((c .before .before .before .before .before .before .before .if2) .left))
+    ((c .before .before .before .before .before .before .part-at) .ensures)
     ((c .before .before .before .before .start) .given .1) ((c .before .before .part-at2) .ensures) ((c .enum-told3) .given .1)
 
 returns-6 : tie.Need-returns-6
 returns-6 c =
     let a = (c .before .before .before .before .before .before .before .before .before .before .before .before .before .before .before .args) in
-    lookup-found (a .set) (now (a .index)) (a .number) (le-leb _ _ ((c .before .before .before .before .before .before .before .before .before .before .before .before .before .if1) .left)) ((c .before .before .before .before .before .before .before .before .before .before .before .before .check-count) .ensures)
-    ((c .before .before .before .before .before .before .before .before .before .before .enum-told) .given .1) (lt-ltb _ _ ((c .before .before .before .before .before .before .before .before .if2) .left)) ((c .before .before .before .before .before .before .before .part-at) .ensures)
+    lookup-found (a .set) (now (a .index)) (a .number)
+    (le-leb _ _ ((c .before .before .before .before .before .before .before .before .before .before .before .before .before .if1) .left))
+    ((c .before .before .before .before .before .before .before .before .before .before .before .before .check-count) .ensures)
+    ((c .before .before .before .before .before .before .before .before .before .before .enum-told) .given .1)
+    (lt-ltb _ _ ((c .before .before .before .before .before .before .before .before .if2) .left))
+    ((c .before .before .before .before .before .before .before .part-at) .ensures)
     ((c .before .before .before .before .before .start) .given .1) ((c .before .before .before .part-at2) .ensures) ((c .before .first) .given .1)
 
 pub lookup-spec : {M : Type 1} → statement M

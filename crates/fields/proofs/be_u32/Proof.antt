@@ -13,7 +13,9 @@ big-endian-requires : tie.Need-big-endian-requires
 big-endian-requires c κs = search needs
 
 returns : tie.Need-returns
-returns c = let a = (c .before .before .before .args) in field-number big 4 ((c .before .four) .result) (now (a .s)) (a .at) ((c .big-endian) .ensures) ((c .before .four) .ensures)
+returns c =
+    let a = (c .before .before .before .args) in field-number big 4 ((c .before .four) .result) (now (a .s)) (a .at) ((c .big-endian) .ensures)
+    ((c .before .four) .ensures)
 
 pub be-u32-spec : {M : Type 1} → statement M
 be-u32-spec = tie.close (tie.spec four-requires big-endian-requires returns)

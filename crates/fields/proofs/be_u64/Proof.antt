@@ -25,7 +25,8 @@ returns : tie.Need-returns
 returns c =
     let a = (c .before .before .before .before .before .before .args) in
     (c .joined) .ensures
-    ∙ big-halves (now (a .s)) (a .at) _ _ ((c .before .before .before .before .four) .ensures) ((c .before .before .four2) .ensures) ((c .before .before .before .big-endian) .ensures) ((c .before .big-endian2) .ensures)
+    ∙ big-halves (now (a .s)) (a .at) _ _ ((c .before .before .before .before .four) .ensures) ((c .before .before .four2) .ensures)
+    ((c .before .before .before .big-endian) .ensures) ((c .before .big-endian2) .ensures)
 
 pub be-u64-spec : {M : Type 1} → statement M
 be-u64-spec =

@@ -52,7 +52,8 @@ returns-2 : tie.Need-returns-2
 returns-2 c =
     let a = (c .before .before .before .before .before .before .before .before .args) in
     (c .word) .ensures .1
-    ∙ four-read (now (a .s)) (a .at) (a .k) ((c .before .before .before .before .byte-past) .ensures) ((c .before .before .before .byte-past2) .ensures) ((c .before .before .byte-past3) .ensures) ((c .before .byte-past4) .ensures)
+    ∙ four-read (now (a .s)) (a .at) (a .k) ((c .before .before .before .before .byte-past) .ensures) ((c .before .before .before .byte-past2) .ensures)
+    ((c .before .before .byte-past3) .ensures) ((c .before .byte-past4) .ensures)
 
 pub four-spec : {M : Type 1} → statement M
 four-spec =

@@ -43,7 +43,8 @@ word-requires : tie.Need-word-requires
 word-requires c κs = search needs
 
 returns : tie.Need-returns
-returns c = let a = (c .before .before .before .before .before .before .args) in (c .word) .ensures .1 ∙ four-read (now (a .s)) (a .at) (a .k) refl refl refl refl
+returns c =
+    let a = (c .before .before .before .before .before .before .args) in (c .word) .ensures .1 ∙ four-read (now (a .s)) (a .at) (a .k) refl refl refl refl
 
 pub inside-spec : {M : Type 1} → statement M
 inside-spec =

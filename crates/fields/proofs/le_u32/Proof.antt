@@ -13,7 +13,9 @@ little-endian-requires : tie.Need-little-endian-requires
 little-endian-requires c κs = search needs
 
 returns : tie.Need-returns
-returns c = let a = (c .before .before .before .args) in field-number little 4 ((c .before .four) .result) (now (a .s)) (a .at) ((c .little-endian) .ensures) ((c .before .four) .ensures)
+returns c =
+    let a = (c .before .before .before .args) in field-number little 4 ((c .before .four) .result) (now (a .s)) (a .at) ((c .little-endian) .ensures)
+    ((c .before .four) .ensures)
 
 pub le-u32-spec : {M : Type 1} → statement M
 le-u32-spec = tie.close (tie.spec four-requires little-endian-requires returns)

@@ -25,7 +25,8 @@ returns : tie.Need-returns
 returns c =
     let a = (c .before .before .before .before .before .before .args) in
     (c .joined) .ensures
-    ∙ little-halves (now (a .s)) (a .at) _ _ ((c .before .before .before .before .four) .ensures) ((c .before .before .four2) .ensures) ((c .before .before .before .little-endian) .ensures) ((c .before .little-endian2) .ensures)
+    ∙ little-halves (now (a .s)) (a .at) _ _ ((c .before .before .before .before .four) .ensures) ((c .before .before .four2) .ensures)
+    ((c .before .before .before .little-endian) .ensures) ((c .before .little-endian2) .ensures)
 
 pub le-u64-spec : {M : Type 1} → statement M
 le-u64-spec =

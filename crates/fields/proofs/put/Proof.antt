@@ -13,7 +13,9 @@ fits-requires : tie.Need-fits-requires
 fits-requires c κs = search needs
 
 put-bytes-requires : tie.Need-put-bytes-requires
-put-bytes-requires c κs = let a = (c .before .before .before .before .args) in leb-true (a .at + a .w) (length (now (a .out))) (sym ((c .before .before .fits2) .ensures) ∙ (c .before .if1) .taken)
+put-bytes-requires c κs =
+    let a = (c .before .before .before .before .args) in leb-true (a .at + a .w) (length (now (a .out)))
+    (sym ((c .before .before .fits2) .ensures) ∙ (c .before .if1) .taken)
 
 same-length : tie.Need-same-length
 same-length c = search needs
@@ -21,7 +23,8 @@ same-length c = search needs
 returns : tie.Need-returns
 returns c =
     let a = (c .before .before .before .before .before .before .before .args) in
-    let h = leb-true (a .at + a .w) (length (now (a .out))) (sym ((c .before .before .before .before .before .fits2) .ensures) ∙ (c .before .before .before .before .if1) .taken) in
+    let h = leb-true (a .at + a .w) (length (now (a .out)))
+    (sym ((c .before .before .before .before .before .fits2) .ensures) ∙ (c .before .before .before .before .if1) .taken) in
     (c .before .before .put-bytes) .ensures ∙ sym (put-fits (a .w) (a .at) (a .n) (now (a .out)) h)
 
 returns-2 : tie.Need-returns-2

@@ -39,7 +39,8 @@ behind-description-requires c κs = let a = (c .before .before .before .before .
 returns-2 : tie.Need-returns-2
 returns-2 c = let a = (c .before .before .before .before .before .before .args) in
     let file = now (a .file) in
-    let e : closing false file (a .to - (a .a + 1)) (a .a + 1) ≡ At _ = sym ((c .before .before .before .before .closing-at) .ensures) ∙ (c .before .before .d) .given .1 in
+    let e : closing false file (a .to - (a .a + 1)) (a .a + 1) ≡ At _ = sym ((c .before .before .before .before .closing-at) .ensures) ∙
+    (c .before .before .d) .given .1 in
     rw e ((c .behind-description) .ensures)
 
 pub behind-accession-spec : {M : Type 1} → statement M

@@ -33,7 +33,9 @@ returns-2 : tie.Need-returns-2
 returns-2 c = let a = (c .before .before .before .before .before .args) in
     let file = now (a .file) in
     let whole = eq-eqb (a .d + 5) (a .to) (omega (arith, (c .before .before .before .if1) .left)) in
-    let t : isTaxonomy (setSigned 4 file (a .d + 1)) ≡ false = ap isTaxonomy (sym (toZ-ofZ w32 _ (record { sfits = (c .before .before .signed4) .ok }) ∙ (c .before .before .signed4) .ensures)) ∙ (sym ((c .before .is-taxonomy) .ensures) ∙ not-true _ ((c .if2) .taken)) in
+    let t : isTaxonomy (setSigned 4 file (a .d + 1)) ≡ false = ap isTaxonomy
+    (sym (toZ-ofZ w32 _ (record { sfits = (c .before .before .signed4) .ok }) ∙ (c .before .before .signed4) .ensures)) ∙
+    (sym ((c .before .is-taxonomy) .ensures) ∙ not-true _ ((c .if2) .taken)) in
     rw (whole, t)
 
 sub-t7 : tie.Need-sub-t7
@@ -55,7 +57,9 @@ returns-3 : tie.Need-returns-3
 returns-3 c = let a = (c .before .before .before .before .before .args) in
     let file = now (a .file) in
     let whole = eq-eqb (a .d + 5) (a .to) (omega (arith, (c .before .before .before .if1) .left)) in
-    let t : isTaxonomy (setSigned 4 file (a .d + 1)) ≡ true = ap isTaxonomy (sym (toZ-ofZ w32 _ (record { sfits = (c .before .before .signed4) .ok }) ∙ (c .before .before .signed4) .ensures)) ∙ (sym ((c .before .is-taxonomy) .ensures) ∙ not-false _ ((c .if2) .left)) in
+    let t : isTaxonomy (setSigned 4 file (a .d + 1)) ≡ true = ap isTaxonomy
+    (sym (toZ-ofZ w32 _ (record { sfits = (c .before .before .signed4) .ok }) ∙ (c .before .before .signed4) .ensures)) ∙
+    (sym ((c .before .is-taxonomy) .ensures) ∙ not-false _ ((c .if2) .left)) in
     rw (whole, t)
 
 pub behind-description-spec : {M : Type 1} → statement M

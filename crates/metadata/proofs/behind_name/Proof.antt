@@ -43,7 +43,8 @@ behind-accession-requires c κs = let a = (c .before .before .before .before .be
 returns-3 : tie.Need-returns-3
 returns-3 c = let a = (c .before .before .before .before .before .before .before .args) in
     let file = now (a .file) in
-    let e : closing true file (a .to - (a .n + 1)) (a .n + 1) ≡ At _ = sym ((c .before .before .before .before .closing-at) .ensures) ∙ (c .before .before .a) .given .1 in
+    let e : closing true file (a .to - (a .n + 1)) (a .n + 1) ≡ At _ = sym ((c .before .before .before .before .closing-at) .ensures) ∙
+    (c .before .before .a) .given .1 in
     rw (ne-eqb _ _ ((c .before .before .before .before .before .if1) .left), e) ((c .behind-accession) .ensures)
 
 pub behind-name-spec : {M : Type 1} → statement M

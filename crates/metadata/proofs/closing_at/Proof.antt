@@ -33,7 +33,10 @@ text-byte-requires c κs = search needs
 returns-2 : tie.Need-returns-2 Inv-loop μ-loop
 returns-2 c = let a = (c .before .before .before .before .before .before .before .args) in
     let l = (c .before .before .before .before .before .loop) in
-    closing-stops (a .name) (now (a .file)) (l .p) (a .to) (omega arith) (λ x. (c .before .before .if1) .left ((c .before .before .before .byte) .ensures ∙ x)) (ap (textByte (a .name)) (sym ((c .before .before .before .byte) .ensures)) ∙ (sym ((c .before .text-byte) .ensures) ∙ not-true _ ((c .if2) .taken))) ∙ l .inv
+    closing-stops (a .name) (now (a .file)) (l .p) (a .to) (omega arith)
+    (λ x. (c .before .before .if1) .left ((c .before .before .before .byte) .ensures ∙ x))
+    (ap (textByte (a .name)) (sym ((c .before .before .before .byte) .ensures)) ∙ (sym ((c .before .text-byte) .ensures) ∙ not-true _ ((c .if2) .taken)))
+    ∙ l .inv
 
 add-p : tie.Need-add-p Inv-loop μ-loop
 add-p c = search needs
@@ -44,7 +47,9 @@ loop-less c = search needs
 loop-again : tie.Need-loop-again Inv-loop μ-loop
 loop-again c = let a = (c .before .before .before .before .before .before .before .args) in
     let l = (c .before .before .before .before .before .loop) in
-    closing-next (a .name) (now (a .file)) (l .p) (a .to) (omega arith) (λ x. (c .before .before .if1) .left ((c .before .before .before .byte) .ensures ∙ x)) (ap (textByte (a .name)) (sym ((c .before .before .before .byte) .ensures)) ∙ (sym ((c .before .text-byte) .ensures) ∙ not-false _ ((c .if2) .left))) ∙ l .inv
+    closing-next (a .name) (now (a .file)) (l .p) (a .to) (omega arith) (λ x. (c .before .before .if1) .left ((c .before .before .before .byte) .ensures ∙ x))
+    (ap (textByte (a .name)) (sym ((c .before .before .before .byte) .ensures)) ∙ (sym ((c .before .text-byte) .ensures) ∙ not-false _ ((c .if2) .left)))
+    ∙ l .inv
 
 returns-3 : tie.Need-returns-3 Inv-loop μ-loop
 returns-3 c = let a = (c .before .before .before .args) in

@@ -30,7 +30,8 @@ returns c = let a = (c .before .before .before .before .args) in
 behind-name-requires : tie.Need-behind-name-requires
 behind-name-requires c κs = let a = (c .before .before .before .before .before .args) in
     let file = now (a .file) in
-    let e : closing true file (a .end .0 - a .start .0) (a .start .0) ≡ At _ = sym ((c .before .before .before .closing-at) .ensures) ∙ (c .before .n) .given .1 in
+    let e : closing true file (a .end .0 - a .start .0) (a .start .0) ≡ At _ = sym ((c .before .before .before .closing-at) .ensures) ∙
+    (c .before .n) .given .1 in
     let w = within true file (a .end .0) (a .start .0) _ e in
     (omega arith, omega arith)
 
@@ -38,7 +39,8 @@ returns-2 : tie.Need-returns-2
 unfolding textsIn
 returns-2 c = let a = (c .before .before .before .before .before .before .args) in
     let file = now (a .file) in
-    let e : closing true file (a .end .0 - a .start .0) (a .start .0) ≡ At _ = sym ((c .before .before .before .before .closing-at) .ensures) ∙ (c .before .before .n) .given .1 in
+    let e : closing true file (a .end .0 - a .start .0) (a .start .0) ≡ At _ = sym ((c .before .before .before .before .closing-at) .ensures) ∙
+    (c .before .before .n) .given .1 in
     rw e ((c .behind-name) .ensures)
 
 pub read-record-spec : {M : Type 1} → statement M

@@ -19,10 +19,14 @@ number-requires c κs = search needs
 enum-known-set : tie.Need-enum-known-set
 enum-known-set c = search needs
 
+number-requires-2 : tie.Need-number-requires-2
+number-requires-2 c κs = search needs
+
 returns : tie.Need-returns
 returns c =
-    let a = (c .before .before .before .before .before .before .before .before .before .args) in
-    set-short (now (a .index)) (now (a .metadata)) (now (a .sequence)) (now (a .results)) _ (lt-leb 80 _ ((c .if1) .taken)) (sym ((c .before .before .before .before .check-set) .ensures) ∙ (c .before .before .set) .given .1)
+    let a = (c .before .before .before .before .before .before .before .before .before .before .args) in
+    set-short (now (a .index)) (now (a .metadata)) (now (a .sequence)) (now (a .results)) _ _ ((c .number2) .ensures) (lt-leb 80 _ ((c .before .if1) .taken))
+    (sym ((c .before .before .before .before .before .check-set) .ensures) ∙ (c .before .before .before .set) .given .1)
 
 cast-t12 : tie.Need-cast-t12
 cast-t12 c = search needs
@@ -54,7 +58,8 @@ put-results-requires c κs = search needs
 returns-2 : tie.Need-returns-2
 returns-2 c =
     let a = (c .before .before .before .before .before .before .before .before .before .args) in
-    set-refused (now (a .index)) (now (a .metadata)) (now (a .sequence)) (now (a .results)) _ _ ((c .number) .ensures) (sym ((c .before .before .before .before .check-set) .ensures) ∙ (c .before .before .r) .given .1)
+    set-refused (now (a .index)) (now (a .metadata)) (now (a .sequence)) (now (a .results)) _ _ ((c .number) .ensures)
+    (sym ((c .before .before .before .before .check-set) .ensures) ∙ (c .before .before .r) .given .1)
 
 same-length : tie.Need-same-length
 same-length c = search needs
@@ -72,6 +77,7 @@ gull-time-check-set-spec =
     enum-known-r
     number-requires
     enum-known-set
+    number-requires-2
     returns
     cast-t12
     cast-t13

@@ -85,7 +85,8 @@ returns-3 c =
     rw (
       f,
       eq-eqb (after (endBefore i (a .table) (a .n))) (a .size) (sym (
-          last-after i (a .table) (l .k) (a .n) (l .inv .0) ((c .before .before .loop-test) .left) ((c .before .after-end) .ensures) (l .inv .1)) ∙ (c .if2) .left),
+          last-after i (a .table) (l .k) (a .n) (l .inv .0) ((c .before .before .loop-test) .left) ((c .before .after-end) .ensures) (l .inv .1)) ∙
+          (c .if2) .left),
     )
 
 pub check-ends-spec : {M : Type 1} → statement M

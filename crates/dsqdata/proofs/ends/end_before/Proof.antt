@@ -24,7 +24,9 @@ signed8-requires : tie.Need-signed8-requires
 signed8-requires c κs = search needs
 
 returns-2 : tie.Need-returns-2
-returns-2 c = let a = (c .before .before .before .args) in again w64 _ _ ((c .signed8) .ok) ((c .signed8) .ensures ∙ sym (end-not-first (now (a .index)) (a .table) (a .k) ((c .before .if1) .left)))
+returns-2 c =
+    let a = (c .before .before .before .args) in again w64 _ _ ((c .signed8) .ok)
+    ((c .signed8) .ensures ∙ sym (end-not-first (now (a .index)) (a .table) (a .k) ((c .before .if1) .left)))
 
 pub end-before-spec : {M : Type 1} → statement M
 end-before-spec =

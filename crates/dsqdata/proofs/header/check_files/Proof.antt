@@ -46,7 +46,8 @@ returns-3 : tie.Need-returns-3
 returns-3 c =
     let a = (c .before .before .before .before .before .before .before .before .before .before .before .before .before .args) in
     metadata-stopped (now (a .index)) (now (a .metadata)) (now (a .sequence))
-    ((c .before .before .before .before .before .before .before .before .before .check-sizes) .ensures) ((c .before .before .before .before .before .before .before .enum-told) .given .1)
+    ((c .before .before .before .before .before .before .before .before .before .check-sizes) .ensures)
+    ((c .before .before .before .before .before .before .before .enum-told) .given .1)
     ((c .before .before .before .before .before .before .check-start) .ensures) ((c .before .before .before .before .enum-told2) .given .1)
     ((c .before .before .before .check-start2) .ensures) ((c .before .second) .given .1)
 
@@ -63,8 +64,10 @@ returns-4 : tie.Need-returns-4
 returns-4 c =
     let a = (c .before .before .before .before .before .before .before .before .before .before .before .before .before .before .before .before .args) in
     sequence-stopped (now (a .index)) (now (a .metadata)) (now (a .sequence))
-    ((c .before .before .before .before .before .before .before .before .before .before .before .before .check-sizes) .ensures) ((c .before .before .before .before .before .before .before .before .before .before .enum-told) .given .1)
-    ((c .before .before .before .before .before .before .before .before .before .check-start) .ensures) ((c .before .before .before .before .before .before .before .enum-told2) .given .1)
+    ((c .before .before .before .before .before .before .before .before .before .before .before .before .check-sizes) .ensures)
+    ((c .before .before .before .before .before .before .before .before .before .before .enum-told) .given .1)
+    ((c .before .before .before .before .before .before .before .before .before .check-start) .ensures)
+    ((c .before .before .before .before .before .before .before .enum-told2) .given .1)
     ((c .before .before .before .before .before .before .check-start2) .ensures) ((c .before .before .before .before .enum-told3) .given .1)
     ((c .before .before .before .check-start3) .ensures) ((c .before .third) .given .1)
 
@@ -78,8 +81,10 @@ returns-5 : tie.Need-returns-5
 returns-5 c =
     let a = (c .before .before .before .before .before .before .before .before .before .before .before .before .before .before .before .before .args) in
     files-passed (now (a .index)) (now (a .metadata)) (now (a .sequence))
-    ((c .before .before .before .before .before .before .before .before .before .before .before .before .check-sizes) .ensures) ((c .before .before .before .before .before .before .before .before .before .before .enum-told) .given .1)
-    ((c .before .before .before .before .before .before .before .before .before .check-start) .ensures) ((c .before .before .before .before .before .before .before .enum-told2) .given .1)
+    ((c .before .before .before .before .before .before .before .before .before .before .before .before .check-sizes) .ensures)
+    ((c .before .before .before .before .before .before .before .before .before .before .enum-told) .given .1)
+    ((c .before .before .before .before .before .before .before .before .before .check-start) .ensures)
+    ((c .before .before .before .before .before .before .before .enum-told2) .given .1)
     ((c .before .before .before .before .before .before .check-start2) .ensures) ((c .before .before .before .before .enum-told3) .given .1)
     ((c .before .before .before .check-start3) .ensures) ((c .before .enum-told4) .given .1) ((c .check-tags) .ensures)
 

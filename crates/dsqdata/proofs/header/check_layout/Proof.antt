@@ -18,7 +18,8 @@ returns c =
 returns-2 : tie.Need-returns-2
 returns-2 c =
     let a = (c .before .before .before .before .before .before .args) in
-    flags-stopped (now (a .index)) (now (a .sequence)) (c .before .before .before .before .before .before .pre) ((c .before .before .before .is-alphabet) .ensures)
+    flags-stopped (now (a .index)) (now (a .sequence)) (c .before .before .before .before .before .before .pre)
+    ((c .before .before .before .is-alphabet) .ensures)
     (not-false _ ((c .before .before .if1) .left)) ((c .if2) .taken)
 
 check-count-requires : tie.Need-check-count-requires
@@ -30,8 +31,10 @@ enum-known-counted c = search needs
 returns-3 : tie.Need-returns-3
 returns-3 c =
     let a = (c .before .before .before .before .before .before .before .before .before .before .args) in
-    count-stopped (now (a .index)) (now (a .sequence)) (c .before .before .before .before .before .before .before .before .before .before .pre) ((c .before .before .before .before .before .before .before .is-alphabet) .ensures)
-    (not-false _ ((c .before .before .before .before .before .before .if1) .left)) ((c .before .before .before .before .if2) .left) ((c .before .before .before .check-count) .ensures)
+    count-stopped (now (a .index)) (now (a .sequence)) (c .before .before .before .before .before .before .before .before .before .before .pre)
+    ((c .before .before .before .before .before .before .before .is-alphabet) .ensures)
+    (not-false _ ((c .before .before .before .before .before .before .if1) .left)) ((c .before .before .before .before .if2) .left)
+    ((c .before .before .before .check-count) .ensures)
     ((c .before .counted) .given .1)
 
 enum-told : tie.Need-enum-told
@@ -43,15 +46,19 @@ bytes-after-header-requires c κs = search needs
 returns-4 : tie.Need-returns-4
 returns-4 c =
     let a = (c .before .before .before .before .before .before .before .before .before .before .before .args) in
-    body-stopped (now (a .index)) (now (a .sequence)) (c .before .before .before .before .before .before .before .before .before .before .before .pre) ((c .before .before .before .before .before .before .before .before .is-alphabet) .ensures)
-    (not-false _ ((c .before .before .before .before .before .before .before .if1) .left)) ((c .before .before .before .before .before .if2) .left) ((c .before .before .before .before .check-count) .ensures)
+    body-stopped (now (a .index)) (now (a .sequence)) (c .before .before .before .before .before .before .before .before .before .before .before .pre)
+    ((c .before .before .before .before .before .before .before .before .is-alphabet) .ensures)
+    (not-false _ ((c .before .before .before .before .before .before .before .if1) .left)) ((c .before .before .before .before .before .if2) .left)
+    ((c .before .before .before .before .check-count) .ensures)
     ((c .before .before .enum-told) .given .1) ((c .before .bytes-after-header) .ensures) ((c .if3) .taken)
 
 returns-5 : tie.Need-returns-5
 returns-5 c =
     let a = (c .before .before .before .before .before .before .before .before .before .before .before .args) in
-    layout-passed (now (a .index)) (now (a .sequence)) (c .before .before .before .before .before .before .before .before .before .before .before .pre) ((c .before .before .before .before .before .before .before .before .is-alphabet) .ensures)
-    (not-false _ ((c .before .before .before .before .before .before .before .if1) .left)) ((c .before .before .before .before .before .if2) .left) ((c .before .before .before .before .check-count) .ensures)
+    layout-passed (now (a .index)) (now (a .sequence)) (c .before .before .before .before .before .before .before .before .before .before .before .pre)
+    ((c .before .before .before .before .before .before .before .before .is-alphabet) .ensures)
+    (not-false _ ((c .before .before .before .before .before .before .before .if1) .left)) ((c .before .before .before .before .before .if2) .left)
+    ((c .before .before .before .before .check-count) .ensures)
     ((c .before .before .enum-told) .given .1) ((c .before .bytes-after-header) .ensures) ((c .if3) .left)
 
 pub check-layout-spec : {M : Type 1} → statement M

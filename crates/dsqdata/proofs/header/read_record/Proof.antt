@@ -38,7 +38,8 @@ field8-requires-3 c κs = search needs
 returns : tie.Need-returns
 returns c =
     record-read (now ((c .before .before .before .before .before .before .before .before .before .before .before .args) .index))
-    ((c .before .before .before .before .before .before .before .before .before .field4) .ensures) ((c .before .before .before .before .before .before .before .before .field42) .ensures)
+    ((c .before .before .before .before .before .before .before .before .before .field4) .ensures)
+    ((c .before .before .before .before .before .before .before .before .field42) .ensures)
     ((c .before .before .before .before .before .before .before .field43) .ensures) ((c .before .before .before .before .before .before .field44) .ensures)
     ((c .before .before .before .before .before .field45) .ensures) ((c .before .before .before .before .field46) .ensures)
     ((c .before .before .before .field47) .ensures) ((c .before .before .field8) .ensures)

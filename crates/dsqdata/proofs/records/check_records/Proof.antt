@@ -70,7 +70,8 @@ returns : tie.Need-returns Inv-loop μ-loop
 returns c =
     let a = (c .before .before .before .before .before .before .before .before .before .args) in
     let l = (c .before .before .before .before .before .before .loop) in
-    let g : textsAt (now (a .index)) (now (a .metadata)) (l .k) ≡ Bad = record-read (now (a .index)) (now (a .metadata)) (l .k) (l .inv .1) ((c .before .before .before .after-end) .ensures)
+    let g : textsAt (now (a .index)) (now (a .metadata)) (l .k) ≡ Bad = record-read (now (a .index)) (now (a .metadata)) (l .k) (l .inv .1)
+    ((c .before .before .before .after-end) .ensures)
     ((c .before .before .before .before .signed8) .ok) ((c .before .before .before .before .signed8) .ensures)
     ((c .before .before .read-record) .ensures) ((c .enum-told) .given .1) in
     records-bad (now (a .index)) (now (a .metadata)) (a .n) (l .k) (omega arith) (l .inv .5) g
@@ -96,10 +97,14 @@ loop-again c =
     let l = (c .before .before .before .before .before .before .before .before .before .before .loop) in
     let i = now (a .index) in
     let m = now (a .metadata) in
-    let next = record-next (now (a .index)) (now (a .metadata)) (l .k) (l .inv .1) ((c .before .before .before .before .before .before .before .after-end) .ensures)
-    ((c .before .before .before .before .before .before .before .before .signed8) .ok) ((c .before .before .before .before .before .before .before .before .signed8) .ensures) in
-    let g : textsAt i m (l .k) ≡ Lengths _ _ _ = record-read (now (a .index)) (now (a .metadata)) (l .k) (l .inv .1) ((c .before .before .before .before .before .before .before .after-end) .ensures)
-    ((c .before .before .before .before .before .before .before .before .signed8) .ok) ((c .before .before .before .before .before .before .before .before .signed8) .ensures)
+    let next = record-next (now (a .index)) (now (a .metadata)) (l .k) (l .inv .1)
+    ((c .before .before .before .before .before .before .before .after-end) .ensures)
+    ((c .before .before .before .before .before .before .before .before .signed8) .ok)
+    ((c .before .before .before .before .before .before .before .before .signed8) .ensures) in
+    let g : textsAt i m (l .k) ≡ Lengths _ _ _ = record-read (now (a .index)) (now (a .metadata)) (l .k) (l .inv .1)
+    ((c .before .before .before .before .before .before .before .after-end) .ensures)
+    ((c .before .before .before .before .before .before .before .before .signed8) .ok)
+    ((c .before .before .before .before .before .before .before .before .signed8) .ensures)
     ((c .before .before .before .before .before .before .read-record) .ensures) ((c .before .before .before .before .a) .given .1) in (
       omega arith,
       next,
