@@ -15,7 +15,6 @@ use Rattle.laws.proofs.Passing.{passes-with}
 use Rattle.laws.proofs.Verdicts.{refused-then}
 use Rattle.answers.specs.declared.Refusal.{Refusal}
 use Rattle.answers.specs.declared.Refusal.the-variants.{BadOffsets, BadRun}
-use Rattle.answers.specs.declared.Checked.{Checked}
 use Rattle.answers.specs.declared.Checked.the-variants as C
 use Rattle.answers.specs.Limits.{checkedBy}
 use Rattle.packets.specs.Runs.{unpacked}
