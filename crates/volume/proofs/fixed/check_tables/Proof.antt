@@ -1,37 +1,39 @@
 -- `volume::fixed::check_tables`: each test is the rule of the same place in the list. Assumes nothing.
-use borrow.Author.Tests.{le-leb, lt-leb}
+use mathlib.Core.Path.{_≡_}
+use mathlib.Core.List.{List}
 use native.Mathlib.Omega.{arith}
-use Prim.Native.Nat.{_≤_, _<_}
-use lib.ListN.{length}
+use Prim.Native.Nat.{ℕ, _≤_, _<_}
+use borrow.Author.Tests.{le-leb, lt-leb}
 use denote.Ref.{now}
-use Rattle.volume.specs.Index.{tablesEnd}
+use lib.ListN.{length, drop}
+use Rattle.answers.specs.Limits.{checkedBy}
+use Rattle.answers.specs.declared.Checked.{Checked}
+use Rattle.volume.specs.Index.{tablesEnd, tableRules}
 use borrow.Author.Needs.{needs}
 use Rattle.volume.proofs.fixed.check_tables.Statement.{statement}
 use Rattle.volume.proofs.fixed.check_tables.Tie as tie
+
+abbrev index : tie.Start → List ℕ
+index s = now (s .args .index)
+
+-- the rules after the first k decide where these passed
+abbrev Past : ℕ → tie.Start → Type 0
+Past k s = (x : Checked) → x ≡ checkedBy (drop k (tableRules (index s))) → x ≡ checkedBy (tableRules (index s))
+
+past1 : (c : tie.Else1) → Past 1 (c .before .before .before)
+past1 c x e = rw (le-leb _ _ (let h : tablesEnd (index (c .before .before .before)) ≤ length (index (c .before .before .before)) = omega arith in h)) e
 
 tables-end-requires : tie.Need-tables-end-requires
 tables-end-requires c κs = search needs
 
 returns : tie.Need-returns
-returns c =
-    let index = now ((c .before .before .before .args) .index) in
-    rw ((let h : length index < tablesEnd index = omega arith in lt-leb _ _ h))
+returns c = rw (lt-leb _ _ (let h : length (index (c .before .before .before)) < tablesEnd (index (c .before .before .before)) = omega arith in h))
 
 returns-2 : tie.Need-returns-2
-returns-2 c =
-    let index = now ((c .before .before .before .before .args) .index) in
-    rw (
-      (let h : tablesEnd index ≤ length index = omega arith in le-leb _ _ h),
-      (let h : tablesEnd index < length index = omega arith in lt-leb _ _ h),
-    )
+returns-2 c = past1 (c .before) _ (rw (lt-leb _ _ (let h : tablesEnd (index (c .before .before .before .before)) < length (index (c .before .before .before .before)) = omega arith in h)))
 
 returns-3 : tie.Need-returns-3
-returns-3 c =
-    let index = now ((c .before .before .before .before .args) .index) in
-    rw (
-      (let h : tablesEnd index ≤ length index = omega arith in le-leb _ _ h),
-      (let h : length index ≤ tablesEnd index = omega arith in le-leb _ _ h),
-    )
+returns-3 c = past1 (c .before) _ (rw (le-leb _ _ (let h : length (index (c .before .before .before .before)) ≤ tablesEnd (index (c .before .before .before .before)) = omega arith in h)))
 
 pub check-tables-spec : {M : Type 1} → statement M
 check-tables-spec = tie.close (tie.spec tables-end-requires returns returns-2 returns-3)

@@ -1,17 +1,40 @@
 -- `volume::fixed::check_timestamp`: each test is the rule of the same place in the list. Assumes nothing.
-use borrow.Author.Tests.{le-leb, lt-leb, eq-eqb, ne-eqb}
-use mathlib.Core.Path.{_≡_}
+use mathlib.Core.Path.{_≡_, ap, _∙_}
+use mathlib.Core.List.{List}
 use native.Mathlib.Omega.{arith}
-use lib.ListN.{length}
-use denote.Ref.{now}
 use Prim.Native.Nat.{ℕ, _%_, _≤_, _<_}
+use borrow.Author.Tests.{le-leb, lt-leb, eq-eqb, ne-eqb}
+use denote.Ref.{now}
+use lib.ListN.{length, drop}
+use Rattle.answers.specs.Limits.{checkedBy}
+use Rattle.answers.specs.declared.Checked.{Checked}
 use lib.Signed.{nonNeg}
-use Rattle.laws.proofs.Told.{not-taken, not-left}
 use Rattle.fields.specs.Number.{big, signedAt}
-use Rattle.volume.specs.Index.{timestampStart, timestampEnd, timestampAlignment}
+use Rattle.volume.specs.Index.{timestampStart, timestampEnd, timestampAlignment, statedTimestampLength, timestampRules}
+use Rattle.volume.proofs.Asked.{passes, fails}
 use borrow.Author.Needs.{needs}
 use Rattle.volume.proofs.fixed.check_timestamp.Statement.{statement}
 use Rattle.volume.proofs.fixed.check_timestamp.Tie as tie
+
+abbrev index : tie.Start → List ℕ
+index s = now (s .args .index)
+
+-- the rules after the first k decide where these passed
+abbrev Past : ℕ → tie.Start → Type 0
+Past k s = (x : Checked) → x ≡ checkedBy (drop k (timestampRules (index s))) → x ≡ checkedBy (timestampRules (index s))
+
+-- the sign that the call told is that of the timestamp's length
+natural : (c : tie.After-not-negative-at) → c .not-negative-at .result ≡ nonNeg (statedTimestampLength (index (c .before .before .before .before .before)))
+natural c = c .not-negative-at .ensures ∙ ap (λ (x : ℕ). nonNeg (signedAt big 4 (index (c .before .before .before .before .before)) x)) (c .before .title-end2 .ensures .0)
+
+past1 : (c : tie.Else1) → Past 1 (c .before .before .before)
+past1 c x e = rw (le-leb _ _ (let h : timestampStart (index (c .before .before .before)) ≤ length (index (c .before .before .before)) = omega arith in h)) e
+
+past2 : (c : tie.Else2) → Past 2 (c .before .before .before .before .before .before)
+past2 c x e = past1 (c .before .before .before) _ (rw (passes (natural (c .before)) (c .if2 .left)) e)
+
+past3 : (c : tie.Else3) → Past 3 (c .before .before .before .before .before .before .before .before)
+past3 c x e = past2 (c .before .before) _ (rw (le-leb _ _ (let h : timestampEnd (index (c .before .before .before .before .before .before .before .before)) ≤ length (index (c .before .before .before .before .before .before .before .before)) = omega arith in h)) e)
 
 title-end-requires : tie.Need-title-end-requires
 title-end-requires c κs = search needs
@@ -20,9 +43,7 @@ add-if1 : tie.Need-add-if1
 add-if1 c = search needs
 
 returns : tie.Need-returns
-returns c =
-    let index = now ((c .before .before .before .args) .index) in
-    rw ((let h : length index < timestampStart index = omega arith in lt-leb _ _ h))
+returns c = rw (lt-leb _ _ (let h : length (index (c .before .before .before)) < timestampStart (index (c .before .before .before)) = omega arith in h))
 
 title-end-requires-2 : tie.Need-title-end-requires-2
 title-end-requires-2 c κs = search needs
@@ -31,47 +52,22 @@ not-negative-at-requires : tie.Need-not-negative-at-requires
 not-negative-at-requires c κs = search needs
 
 returns-2 : tie.Need-returns-2
-returns-2 c =
-    let index = now ((c .before .before .before .before .before .before .args) .index) in
-    rw (
-      (let h : timestampStart index ≤ length index = omega arith in le-leb _ _ h),
-      not-taken (λ (x : ℕ). nonNeg (signedAt big 4 index x)) ((c .before .before .title-end2) .ensures .0) ((c .before .not-negative-at) .ensures) ((c .if2) .taken),
-    )
+returns-2 c = past1 (c .before .before .before) _ (rw (fails (natural (c .before)) (c .if2 .taken)))
 
 timestamp-end-requires : tie.Need-timestamp-end-requires
 timestamp-end-requires c κs = search needs
 
 returns-3 : tie.Need-returns-3
-returns-3 c =
-    let index = now ((c .before .before .before .before .before .before .before .before .args) .index) in
-    rw (
-      (let h : timestampStart index ≤ length index = omega arith in le-leb _ _ h),
-      not-left (λ (x : ℕ). nonNeg (signedAt big 4 index x)) ((c .before .before .before .before .title-end2) .ensures .0) ((c .before .before .before .not-negative-at) .ensures) ((c .before .before .if2) .left),
-      (let h : length index < timestampEnd index = omega arith in lt-leb _ _ h),
-    )
+returns-3 c = past2 (c .before .before) _ (rw (lt-leb _ _ (let h : length (index (c .before .before .before .before .before .before .before .before)) < timestampEnd (index (c .before .before .before .before .before .before .before .before)) = omega arith in h)))
 
 timestamp-end-requires-2 : tie.Need-timestamp-end-requires-2
 timestamp-end-requires-2 c κs = search needs
 
 returns-4 : tie.Need-returns-4
-returns-4 c =
-    let index = now ((c .before .before .before .before .before .before .before .before .before .before .args) .index) in
-    rw (
-      (let h : timestampStart index ≤ length index = omega arith in le-leb _ _ h),
-      not-left (λ (x : ℕ). nonNeg (signedAt big 4 index x)) ((c .before .before .before .before .before .before .title-end2) .ensures .0) ((c .before .before .before .before .before .not-negative-at) .ensures) ((c .before .before .before .before .if2) .left),
-      (let h : timestampEnd index ≤ length index = omega arith in le-leb _ _ h),
-      ne-eqb _ _ (λ h. let g : timestampEnd index % timestampAlignment ≡ 0 = h in (c .if4) .taken (omega arith)),
-    )
+returns-4 c = past3 (c .before .before) _ (rw (ne-eqb _ _ (λ h. let g : timestampEnd (index (c .before .before .before .before .before .before .before .before .before .before)) % timestampAlignment ≡ 0 = h in c .if4 .taken (omega arith))))
 
 returns-5 : tie.Need-returns-5
-returns-5 c =
-    let index = now ((c .before .before .before .before .before .before .before .before .before .before .args) .index) in
-    rw (
-      (let h : timestampStart index ≤ length index = omega arith in le-leb _ _ h),
-      not-left (λ (x : ℕ). nonNeg (signedAt big 4 index x)) ((c .before .before .before .before .before .before .title-end2) .ensures .0) ((c .before .before .before .before .before .not-negative-at) .ensures) ((c .before .before .before .before .if2) .left),
-      (let h : timestampEnd index ≤ length index = omega arith in le-leb _ _ h),
-      eq-eqb _ _ (let h : timestampEnd index % timestampAlignment ≡ 0 = omega arith in h),
-    )
+returns-5 c = past3 (c .before .before) _ (rw (eq-eqb _ _ (let h : timestampEnd (index (c .before .before .before .before .before .before .before .before .before .before)) % timestampAlignment ≡ 0 = omega arith in h)))
 
 pub check-timestamp-spec : {M : Type 1} → statement M
 check-timestamp-spec =

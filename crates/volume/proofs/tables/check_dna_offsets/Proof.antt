@@ -1,18 +1,76 @@
 -- `volume::tables::check_dna_offsets`: each test is the rule of the same place in the list. Assumes nothing.
-use mathlib.Core.Path.{ap, _∙_}
+use mathlib.Core.Path.{_≡_, ap, _∙_}
+use mathlib.Core.Bool.{Bool}
+use mathlib.Core.List.{List}
 use Prim.Native.Nat.{ℕ}
 use denote.Ref.{now}
+use lib.ListN.{length, drop}
+use Rattle.answers.specs.Limits.{checkedBy}
+use Rattle.answers.specs.declared.Checked.{Checked}
 use lib.IntN.{pos}
-use lib.ListN.{length}
 use Rattle.laws.specs.Places.{every}
 use Rattle.laws.specs.Signed.{eqZ}
-use Rattle.laws.proofs.Told.{not-taken, not-left}
-use Rattle.volume.specs.Index.{sequences, ambiguityTable}
-use Rattle.volume.specs.Tables.{offsetAt, ambiguityBetween, firstNucleotideOffset}
-use Rattle.volume.proofs.Lengths.{between-at}
+use Rattle.volume.specs.Index.{sequences, sequenceTable, ambiguityTable}
+use Rattle.volume.specs.Tables.{offsetAt, sequenceOffset, ambiguityOffset, ambiguityBetween, firstNucleotideOffset, dnaOffsetRules}
+use Rattle.volume.proofs.Asked.{passes, fails, same-test}
 use borrow.Author.Needs.{needs}
 use Rattle.volume.proofs.tables.check_dna_offsets.Statement.{statement}
 use Rattle.volume.proofs.tables.check_dna_offsets.Tie as tie
+
+abbrev index : tie.Start → List ℕ
+index s = now (s .args .index)
+
+abbrev sequence : tie.Start → List ℕ
+sequence s = now (s .args .sequence)
+
+-- the rules after the first k decide where these passed
+abbrev Past : ℕ → tie.Start → Type 0
+Past k s = (x : Checked) → x ≡ checkedBy (drop k (dnaOffsetRules (index s) (sequence s))) → x ≡ checkedBy (dnaOffsetRules (index s) (sequence s))
+
+-- the rules' tests, and that the calls told them
+abbrev First : tie.Start → Bool
+First s = eqZ (sequenceOffset (index s) 0) (pos firstNucleotideOffset)
+
+first : (c : tie.After-offset-is) → c .offset-is .result ≡ First (c .before .before .before .before .before .before)
+first c =
+    let s = (c .before .before .before .before .before .before) in
+    c .offset-is .ensures ∙ ap (λ (t : ℕ). eqZ (offsetAt (index s) t 0) (pos firstNucleotideOffset)) (c .before .before .before .sequence-table .ensures .0)
+
+abbrev Steps : tie.Start → Bool
+Steps s = every (ambiguityBetween (index s) (sequenceTable (index s)) (ambiguityTable (index s))) (sequences (index s))
+
+steps : (c : tie.After-ambiguity-between) → c .ambiguity-between .result ≡ Steps (c .before .before .before .before .before .before .before .before)
+steps c =
+    let s = (c .before .before .before .before .before .before .before .before) in
+    c .ambiguity-between .ensures
+    ∙ ap (λ (t : ℕ). every (ambiguityBetween (index s) t (c .before .before .before .before .ambiguity-table .result)) (c .before .before .before .sequence-count .result)) (c .before .before .before .before .before .sequence-table .ensures .0)
+    ∙ same-test (λ (t n : ℕ). every (ambiguityBetween (index s) (sequenceTable (index s)) t) n) (c .before .before .before .before .ambiguity-table .ensures .0) (c .before .before .before .sequence-count .ensures .0)
+
+abbrev Last : tie.Start → Bool
+Last s = eqZ (sequenceOffset (index s) (sequences (index s))) (pos (length (sequence s)))
+
+last : (c : tie.After-offset-is2) → c .offset-is2 .result ≡ Last (c .before .before .before .before .before .before .before .before .before .before)
+last c =
+    let s = (c .before .before .before .before .before .before .before .before .before .before) in
+    c .offset-is2 .ensures ∙ same-test (λ (t n : ℕ). eqZ (offsetAt (index s) t n) (pos (length (sequence s)))) (c .before .before .before .before .before .before .before .sequence-table .ensures .0) (c .before .before .before .before .before .sequence-count .ensures .0)
+
+abbrev LastAmbiguity : tie.Start → Bool
+LastAmbiguity s = eqZ (ambiguityOffset (index s) (sequences (index s))) (pos (length (sequence s)))
+
+last-ambiguity : (c : tie.After-offset-is3) → c .offset-is3 .result ≡ LastAmbiguity (c .before .before .before .before .before .before .before .before .before .before .before .before)
+last-ambiguity c =
+    let s = (c .before .before .before .before .before .before .before .before .before .before .before .before) in
+    c .offset-is3 .ensures
+    ∙ same-test (λ (t n : ℕ). eqZ (offsetAt (index s) t n) (pos (length (sequence s)))) (c .before .before .before .before .before .before .before .before .ambiguity-table .ensures .0) (c .before .before .before .before .before .before .before .sequence-count .ensures .0)
+
+past1 : (c : tie.Else1) → Past 1 (c .before .before .before .before .before .before .before)
+past1 c x e = rw (passes (first (c .before)) (c .if1 .left)) e
+
+past2 : (c : tie.Else2) → Past 2 (c .before .before .before .before .before .before .before .before .before)
+past2 c x e = past1 (c .before .before) _ (rw (passes (steps (c .before)) (c .if2 .left)) e)
+
+past3 : (c : tie.Else3) → Past 3 (c .before .before .before .before .before .before .before .before .before .before .before)
+past3 c x e = past2 (c .before .before) _ (rw (passes (last (c .before)) (c .if3 .left)) e)
 
 sequence-table-requires : tie.Need-sequence-table-requires
 sequence-table-requires c κs = search needs
@@ -27,65 +85,28 @@ offset-is-requires : tie.Need-offset-is-requires
 offset-is-requires c κs = search needs
 
 returns : tie.Need-returns
-returns c = rw (not-taken (λ (t : ℕ). eqZ (offsetAt (now ((c .before .before .before .before .before .before .before .args) .index)) t 0) (pos firstNucleotideOffset)) ((c .before .before .before .before .sequence-table) .ensures .0) ((c .before .offset-is) .ensures) ((c .if1) .taken))
+returns c = rw (fails (first (c .before)) (c .if1 .taken))
 
 ambiguity-between-requires : tie.Need-ambiguity-between-requires
 ambiguity-between-requires c κs = search needs
 
 returns-2 : tie.Need-returns-2
-returns-2 c =
-    let index = now ((c .before .before .before .before .before .before .before .before .before .args) .index) in
-    let sequence-table = c .before .before .before .before .before .before .sequence-table in
-    rw (
-      not-left (λ (t : ℕ). eqZ (offsetAt index t 0) (pos firstNucleotideOffset)) (sequence-table .ensures .0) ((c .before .before .before .offset-is) .ensures) ((c .before .before .if1) .left),
-      not-taken (λ (t : ℕ). every (ambiguityBetween index t (ambiguityTable index)) (sequences index)) (sequence-table .ensures .0) ((c .before .ambiguity-between) .ensures ∙ between-at index (sequence-table .result) ((c .before .before .before .before .before .ambiguity-table) .ensures .0) ((c .before .before .before .before .sequence-count) .ensures .0)) ((c .if2) .taken),
-    )
+returns-2 c = past1 (c .before .before) _ (rw (fails (steps (c .before)) (c .if2 .taken)))
 
 offset-is-requires-2 : tie.Need-offset-is-requires-2
 offset-is-requires-2 c κs = search needs
 
 returns-3 : tie.Need-returns-3
-returns-3 c =
-    let index = now ((c .before .before .before .before .before .before .before .before .before .before .before .args) .index) in
-    let sequence = now ((c .before .before .before .before .before .before .before .before .before .before .before .args) .sequence) in
-    let sequence-count = c .before .before .before .before .before .before .sequence-count in
-    let sequence-table = c .before .before .before .before .before .before .before .before .sequence-table in
-    rw (
-      not-left (λ (t : ℕ). eqZ (offsetAt index t 0) (pos firstNucleotideOffset)) (sequence-table .ensures .0) ((c .before .before .before .before .before .offset-is) .ensures) ((c .before .before .before .before .if1) .left),
-      not-left (λ (t : ℕ). every (ambiguityBetween index t (ambiguityTable index)) (sequences index)) (sequence-table .ensures .0) ((c .before .before .before .ambiguity-between) .ensures ∙ between-at index (sequence-table .result) ((c .before .before .before .before .before .before .before .ambiguity-table) .ensures .0) (sequence-count .ensures .0)) ((c .before .before .if2) .left),
-      not-taken (λ (t : ℕ). eqZ (offsetAt index t (sequences index)) (pos (length sequence))) (sequence-table .ensures .0) ((c .before .offset-is2) .ensures ∙ ap (λ (n : ℕ). eqZ (offsetAt index (sequence-table .result) n) (pos (length sequence))) (sequence-count .ensures .0)) ((c .if3) .taken),
-    )
+returns-3 c = past2 (c .before .before) _ (rw (fails (last (c .before)) (c .if3 .taken)))
 
 offset-is-requires-3 : tie.Need-offset-is-requires-3
 offset-is-requires-3 c κs = search needs
 
 returns-4 : tie.Need-returns-4
-returns-4 c =
-    let index = now ((c .before .before .before .before .before .before .before .before .before .before .before .before .before .args) .index) in
-    let sequence = now ((c .before .before .before .before .before .before .before .before .before .before .before .before .before .args) .sequence) in
-    let ambiguity-table = c .before .before .before .before .before .before .before .before .before .ambiguity-table in
-    let sequence-count = c .before .before .before .before .before .before .before .before .sequence-count in
-    let sequence-table = c .before .before .before .before .before .before .before .before .before .before .sequence-table in
-    rw (
-      not-left (λ (t : ℕ). eqZ (offsetAt index t 0) (pos firstNucleotideOffset)) (sequence-table .ensures .0) ((c .before .before .before .before .before .before .before .offset-is) .ensures) ((c .before .before .before .before .before .before .if1) .left),
-      not-left (λ (t : ℕ). every (ambiguityBetween index t (ambiguityTable index)) (sequences index)) (sequence-table .ensures .0) ((c .before .before .before .before .before .ambiguity-between) .ensures ∙ between-at index (sequence-table .result) (ambiguity-table .ensures .0) (sequence-count .ensures .0)) ((c .before .before .before .before .if2) .left),
-      not-left (λ (t : ℕ). eqZ (offsetAt index t (sequences index)) (pos (length sequence))) (sequence-table .ensures .0) ((c .before .before .before .offset-is2) .ensures ∙ ap (λ (n : ℕ). eqZ (offsetAt index (sequence-table .result) n) (pos (length sequence))) (sequence-count .ensures .0)) ((c .before .before .if3) .left),
-      not-taken (λ (t : ℕ). eqZ (offsetAt index t (sequences index)) (pos (length sequence))) (ambiguity-table .ensures .0) ((c .before .offset-is3) .ensures ∙ ap (λ (n : ℕ). eqZ (offsetAt index (ambiguity-table .result) n) (pos (length sequence))) (sequence-count .ensures .0)) ((c .if4) .taken),
-    )
+returns-4 c = past3 (c .before .before) _ (rw (fails (last-ambiguity (c .before)) (c .if4 .taken)))
 
 returns-5 : tie.Need-returns-5
-returns-5 c =
-    let index = now ((c .before .before .before .before .before .before .before .before .before .before .before .before .before .args) .index) in
-    let sequence = now ((c .before .before .before .before .before .before .before .before .before .before .before .before .before .args) .sequence) in
-    let ambiguity-table = c .before .before .before .before .before .before .before .before .before .ambiguity-table in
-    let sequence-count = c .before .before .before .before .before .before .before .before .sequence-count in
-    let sequence-table = c .before .before .before .before .before .before .before .before .before .before .sequence-table in
-    rw (
-      not-left (λ (t : ℕ). eqZ (offsetAt index t 0) (pos firstNucleotideOffset)) (sequence-table .ensures .0) ((c .before .before .before .before .before .before .before .offset-is) .ensures) ((c .before .before .before .before .before .before .if1) .left),
-      not-left (λ (t : ℕ). every (ambiguityBetween index t (ambiguityTable index)) (sequences index)) (sequence-table .ensures .0) ((c .before .before .before .before .before .ambiguity-between) .ensures ∙ between-at index (sequence-table .result) (ambiguity-table .ensures .0) (sequence-count .ensures .0)) ((c .before .before .before .before .if2) .left),
-      not-left (λ (t : ℕ). eqZ (offsetAt index t (sequences index)) (pos (length sequence))) (sequence-table .ensures .0) ((c .before .before .before .offset-is2) .ensures ∙ ap (λ (n : ℕ). eqZ (offsetAt index (sequence-table .result) n) (pos (length sequence))) (sequence-count .ensures .0)) ((c .before .before .if3) .left),
-      not-left (λ (t : ℕ). eqZ (offsetAt index t (sequences index)) (pos (length sequence))) (ambiguity-table .ensures .0) ((c .before .offset-is3) .ensures ∙ ap (λ (n : ℕ). eqZ (offsetAt index (ambiguity-table .result) n) (pos (length sequence))) (sequence-count .ensures .0)) ((c .if4) .left),
-    )
+returns-5 c = past3 (c .before .before) _ (rw (passes (last-ambiguity (c .before)) (c .if4 .left)))
 
 pub check-dna-offsets-spec : {M : Type 1} → statement M
 check-dna-offsets-spec =
