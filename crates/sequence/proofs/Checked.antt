@@ -26,7 +26,8 @@ use Rattle.sequence.specs.declared.DecodeAnswer.{DecodeAnswer}
 use Rattle.sequence.specs.declared.DecodeAnswer.the-variants.{Decoded, Refused}
 use Rattle.sequence.specs.Checked.{OnlyResidues}
 use Rattle.sequence.specs.Corrections.{isTable, entryWidth, entryCount, entryFits, rangeRules}
-use Rattle.sequence.specs.Sequence.{rangeEnd, isProteinByte, proteinEntryRules, proteinByteRules, dnaEntryRules, sequenceRules, roomRules, ownAnswer, decodeAnswer, decodeNumber}
+use Rattle.sequence.specs.Sequence.{rangeEnd, isProteinByte, proteinEntryRules, proteinByteRules, dnaEntryRules}
+use Rattle.sequence.specs.Sequence.{sequenceRules, roomRules, ownAnswer, decodeAnswer, decodeNumber}
 use Rattle.sequence.specs.Holds.{RangeHolds}
 use Rattle.sequence.proofs.Answers.{own-protein, own-dna, decode-read}
 use Rattle.sequence.proofs.Exact.{range-test, parts-zero}
@@ -49,13 +50,15 @@ module _ (l room : ℕ) where
   decided x false b wrong e = inr (inl e)
 
   -- the rules of the entries hold: what is asked after them decides
-  entries-hold : (entries rest : List (Rule Refusal)) → AllHold entries → verdict Refused (Decoded l) ((entries ++ rest) ++ roomRules l room) ≡ verdict Refused last rest
+  entries-hold : (entries rest : List (Rule Refusal)) → AllHold entries
+      → verdict Refused (Decoded l) ((entries ++ rest) ++ roomRules l room) ≡ verdict Refused last rest
   entries-hold entries rest h =
       verdict-append Refused (Decoded l) (entries ++ rest) (roomRules l room)
       ∙ verdict-append Refused last entries rest
       ∙ verdict-passes Refused (verdict Refused last rest) entries h
 
-module _ (index sequence header : List ℕ) (passes : volumeNumber (volumeAnswer index sequence header) ≡ 0) (i : ℕ) (below : i < sequences index) (room : ℕ) where
+module _ (index sequence header : List ℕ) (passes : volumeNumber (volumeAnswer index sequence header) ≡ 0) (i : ℕ) (below : i < sequences index)
+    (room : ℕ) where
   parts : Exact.VolumeParts index sequence header
   parts = Exact.volume-parts index sequence header (Exact.zero-all index sequence header passes)
 
@@ -86,8 +89,11 @@ module _ (index sequence header : List ℕ) (passes : volumeNumber (volumeAnswer
       let rest = proteinByteRules sequence (sequenceStart index i) (proteinLength index i) in
       let h = protein-holds t in
       let e : decodeAnswer index sequence i room ≡ verdict Refused (last (proteinLength index i) room) rest =
-      sym own-decides ∙ sym (own-protein index sequence i room below t) ∙ entries-hold (proteinLength index i) room (proteinEntryRules index sequence i) rest h in
-      let d = decided (proteinLength index i) room (decodeAnswer index sequence i room) true (every (isProteinByte sequence (sequenceStart index i)) (proteinLength index i)) BadProteinByte e in
+      sym own-decides
+      ∙ sym (own-protein index sequence i room below t)
+      ∙ entries-hold (proteinLength index i) room (proteinEntryRules index sequence i) rest h in
+      let bytes = every (isProteinByte sequence (sequenceStart index i)) (proteinLength index i) in
+      let d = decided (proteinLength index i) room (decodeAnswer index sequence i room) true bytes BadProteinByte e in
       rw t (⊎-elim inl (λ x. inr (⊎-elim inl (λ y. inr (inr y)) x)) d)
 
   dna-only : isProtein index ≡ false → OnlyResidues index sequence i room
@@ -99,7 +105,8 @@ module _ (index sequence header : List ℕ) (passes : volumeNumber (volumeAnswer
       let h = dna-holds t in
       let e : decodeAnswer index sequence i room ≡ verdict Refused (last l room) rest =
       sym own-decides ∙ sym (own-dna index sequence i room below t) ∙ entries-hold l room (dnaEntryRules index sequence i) rest h in
-      let d = decided l room (decodeAnswer index sequence i room) (isTable sequence place end) (every (entryFits sequence (place + 4) (entryWidth sequence place) l) (entryCount sequence place end)) BadAmbiguity e in
+      let fit = every (entryFits sequence (place + 4) (entryWidth sequence place) l) (entryCount sequence place end) in
+      let d = decided l room (decodeAnswer index sequence i room) (isTable sequence place end) fit BadAmbiguity e in
       rw t (⊎-elim inl (λ x. inr (inr x)) d)
 
   -- For every sequence of a volume that passes the volume check only 11, 12 and 13 remain, and 13 only where the room is below L, the length

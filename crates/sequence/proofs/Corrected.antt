@@ -19,7 +19,8 @@ use Rattle.laws.proofs.Tests.{bool-cases, both-pass}
 use Rattle.laws.proofs.Writing.{length-written}
 use Rattle.residues.specs.Tables.{ambiguityCode}
 use Rattle.sequence.specs.declared.Correction.{Correction}
-use Rattle.sequence.specs.Corrections.{correctionAt, correctionEnd, painted, corrected, covers, correctedAt, entryFits, entryWidth, entryCount, rangeRules}
+use Rattle.sequence.specs.Corrections.{correctionAt, correctionEnd, painted, corrected, covers, correctedAt}
+use Rattle.sequence.specs.Corrections.{entryFits, entryWidth, entryCount, rangeRules}
 use Rattle.sequence.specs.Bases.{baseAt, twoBitResidues}
 use Rattle.sequence.specs.Sequence.{dnaResidues}
 use Rattle.sequence.proofs.Ranges.{ends-within, starts-after, table-ends}

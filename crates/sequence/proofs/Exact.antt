@@ -70,7 +70,8 @@ module _ (sequence : List ℕ) (place end l : ℕ) where
       fit : (j : ℕ) → j < r .count → entryFits sequence (place + 4) (entryWidth sequence place) l j ≡ true
       fit j k =
           rw (width-of sequence place end (r .width) (r .count) (r .entries) (omega arith))
-          (fits-both sequence (place + 4) (r .width) l j (endBefore sequence (place + 4) (r .width) j) (correctionAt sequence (place + 4) (r .width) j) refl refl (low j k) (r .within j k))
+          (fits-both sequence (place + 4) (r .width) l j (endBefore sequence (place + 4) (r .width) j) (correctionAt sequence (place + 4) (r .width) j)
+          refl refl (low j k) (r .within j k))
 
 -- ---- the residue at a place
 
@@ -98,7 +99,8 @@ module _ (sequence : List ℕ) (place end l w n : ℕ) (h : AllHold (rangeRules 
   -- the code of the entry that covers the place, which lies within L
   pub covered-residue : (j : ℕ) → j < n → correctionAt sequence (place + 4) w j .start ≤ k → k < correctionEnd (correctionAt sequence (place + 4) w j)
       → (k < l)
-      × (correctedAt sequence (place + 4) (entryWidth sequence place) (entryCount sequence place end) k base ≡ ambiguityCode (correctionAt sequence (place + 4) w j .value))
+      × (correctedAt sequence (place + 4) (entryWidth sequence place) (entryCount sequence place end) k base
+      ≡ ambiguityCode (correctionAt sequence (place + 4) w j .value))
   covered-residue j i a b =
       let c = correctionAt sequence (place + 4) w j in
       let f = width (omega arith) in

@@ -17,7 +17,8 @@ use Rattle.laws.specs.Rules.{AllHold}
 use Rattle.laws.proofs.Places.{every-at}
 use Rattle.laws.proofs.Tests.{both-pass}
 use Rattle.sequence.specs.declared.Correction.{Correction}
-use Rattle.sequence.specs.Corrections.{statedWords, isWide, isTable, entryWidth, entryCount, correctionOf, correctionAt, correctionEnd, endBefore, entryFits, rangeRules}
+use Rattle.sequence.specs.Corrections.{statedWords, isWide, isTable, entryWidth, entryCount, correctionOf, correctionAt}
+use Rattle.sequence.specs.Corrections.{correctionEnd, endBefore, entryFits, rangeRules}
 use Rattle.sequence.specs.Holds.{HasEntries, empty, narrow, wide}
 
 -- ---- the width of an entry
@@ -63,7 +64,9 @@ module _ (sequence : List ℕ) (place end : ℕ) where
       (eqb-true (place + 4 + 4 * statedWords sequence place) end (p .0), p .1)
 
   by-tests : (none big : Bool) → eqb place end ≡ none → isWide sequence place ≡ big
-      → cond none true (leb (place + 4) end && (eqb (place + 4 + 4 * statedWords sequence place) end && cond big (eqb (statedWords sequence place % 2) 0) true)) ≡ true
+      → cond none true
+      (leb (place + 4) end && (eqb (place + 4 + 4 * statedWords sequence place) end && cond big (eqb (statedWords sequence place % 2) 0) true))
+      ≡ true
       → HasEntries sequence place end (cond big 8 4) (cond none 0 (cond big (statedWords sequence place / 2) (statedWords sequence place)))
   by-tests true big e f t = empty (eqb-true place end e) refl
   by-tests false true e f t =
@@ -87,7 +90,8 @@ module _ (sequence : List ℕ) (place end : ℕ) where
     table-test (empty e z) = rw (eq-eqb place end e)
     table-test (narrow h e f g) = rw (some-words _ e, le-leb (place + 4) end (omega arith), eq-eqb _ end e, lt-leb 2147483648 _ h)
     table-test (wide h e f g) =
-        rw (some-words _ e, le-leb (place + 4) end (omega arith), eq-eqb _ end e, le-leb 2147483648 _ h, eq-eqb (statedWords sequence place % 2) 0 (omega arith))
+        let even = eq-eqb (statedWords sequence place % 2) 0 (omega arith) in
+        rw (some-words _ e, le-leb (place + 4) end (omega arith), eq-eqb _ end e, le-leb 2147483648 _ h, even)
 
     pub count-of : HasEntries sequence place end w n → entryCount sequence place end ≡ n
     unfolding entryCount
@@ -111,7 +115,8 @@ module _ (sequence : List ℕ) (place end : ℕ) where
 pub entry-in-file : (sequence : List ℕ) (place end w n : ℕ) → isTable sequence place end ≡ true → end ≤ length sequence
     → w ≡ entryWidth sequence place → n ≡ entryCount sequence place end → (j : ℕ) → j < n → place + 4 + w * j ≤ length sequence
 entry-in-file sequence place end w n t h e f j l =
-    let i : place + 4 + w * j ≤ end = rw e (entry-inside sequence place end (entryWidth sequence place) (entryCount sequence place end) (table-of sequence place end t) j (rw (← f) l)) in
+    let i : place + 4 + w * j ≤ end = rw e
+    (entry-inside sequence place end (entryWidth sequence place) (entryCount sequence place end) (table-of sequence place end t) j (rw (← f) l)) in
     omega arith
 
 -- ---- corrections

@@ -15,7 +15,8 @@ use Rattle.fields.specs.Number.{big, signedAt, unsignedAt}
 use Rattle.answers.specs.declared.Refusal.{Refusal}
 use Rattle.volume.specs.declared.Index.{Index}
 use Rattle.volume.specs.declared.IndexAnswer.the-variants.{Read, Refused}
-use Rattle.volume.specs.Index.{titleLength, titleEnd, timestampLength, timestampEnd, sequences, sequenceTable, ambiguityTable, headerTable, indexRules, indexOf, readRules, indexAnswer}
+use Rattle.volume.specs.Index.{titleLength, titleEnd, timestampLength, timestampEnd, sequences}
+use Rattle.volume.specs.Index.{headerTable, sequenceTable, ambiguityTable, indexRules, indexOf, readRules, indexAnswer}
 
 not-refused : (x : Index) (r : Refusal) → Refused r ≡ Read x → ⊥
 not-refused x r e = let z : _≡_ {A = ℕ} 0 1 = cc in omega arith

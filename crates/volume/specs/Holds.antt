@@ -9,7 +9,8 @@ use lib.IntN.{pos}
 use lib.ListN.{length, getD}
 use lib.Signed.{_≤ℤ_, _<ℤ_}
 use Rattle.laws.specs.Places.{sumTo, largestTo}
-use Rattle.volume.specs.Index.{statedVersion, statedType, statedTitleLength, statedTimestampLength, timestampEnd, timestampAlignment, statedSequences, sequences, mostSequences, statedResidues, statedLongest, tableSize, headerTable}
+use Rattle.volume.specs.Index.{statedVersion, statedType, statedTitleLength, statedTimestampLength, timestampEnd, timestampAlignment}
+use Rattle.volume.specs.Index.{statedSequences, sequences, mostSequences, statedResidues, statedLongest, tableSize, headerTable}
 use Rattle.volume.specs.Tables.{headerOffset, sequenceOffset, ambiguityOffset, firstNucleotideOffset, proteinEnd, proteinLength, dnaLength}
 
 -- The fixed fields.

@@ -26,9 +26,10 @@ returns c =
 
 protein-entry-requires : tie.Need-protein-entry-requires
 protein-entry-requires c κs =
+    let p = c .before .before .before .before .before .before .pre in
     let a = c .before .before .before .before .before .before .args in
-    let n = numbers-of (now (a .index)) (a .x) (c .before .before .before .before .before .before .pre .0) in
-    (c .before .before .before .before .before .before .pre .0, omega (arith, c .before .before .if1 .left, n .sequencesAre, tables-near (now (a .index)) .number))
+    let n = numbers-of (now (a .index)) (a .x) (p .0) in
+    (p .0, omega (arith, c .before .before .if1 .left, n .sequencesAre, tables-near (now (a .index)) .number))
 
 decode-protein-requires : tie.Need-decode-protein-requires
 decode-protein-requires c κs = search needs
@@ -75,9 +76,11 @@ returns-3 c =
 
 dna-entry-requires : tie.Need-dna-entry-requires
 dna-entry-requires c κs =
+    let p = c .before .before .before .before .before .before .before .before .pre in
+    let if1 = c .before .before .before .before .if1 in
     let a = c .before .before .before .before .before .before .before .before .args in
-    let n = numbers-of (now (a .index)) (a .x) (c .before .before .before .before .before .before .before .before .pre .0) in
-    (c .before .before .before .before .before .before .before .before .pre .0, omega (arith, c .before .before .before .before .if1 .left, n .sequencesAre, tables-near (now (a .index)) .number))
+    let n = numbers-of (now (a .index)) (a .x) (p .0) in
+    (p .0, omega (arith, if1 .left, n .sequencesAre, tables-near (now (a .index)) .number))
 
 decode-dna-requires : tie.Need-decode-dna-requires
 decode-dna-requires c κs = c .before .before .before .before .before .before .before .before .before .before .pre .1
@@ -87,11 +90,15 @@ same-length-2 c = search needs
 
 returns-4 : tie.Need-returns-4
 returns-4 c =
+    let p = c .before .before .before .before .before .before .before .before .before .before .before .before .before .pre in
+    let if1 = c .before .before .before .before .before .before .before .before .before .if1 in
+    let not-negative-at = c .before .before .before .before .before .before .not-negative-at in
+    let if3 = c .before .before .before .before .before .if3 in
     let a = c .before .before .before .before .before .before .before .before .before .before .before .before .before .args in
-    let n = numbers-of (now (a .index)) (a .x) (c .before .before .before .before .before .before .before .before .before .before .before .before .before .pre .0) in
-    let h : a .number < sequences (now (a .index)) = omega (arith, c .before .before .before .before .before .before .before .before .before .if1 .left, n .sequencesAre) in
+    let n = numbers-of (now (a .index)) (a .x) (p .0) in
+    let h : a .number < sequences (now (a .index)) = omega (arith, if1 .left, n .sequencesAre) in
     let k = kind-dna (now (a .index)) (a .x .kind) (n .kindIs) (c .before .before .before .before .before .before .before .if2 .left) in
-    let s = not-left (λ (b : Bool). b) (start-sign (now (a .index)) (a .number) _ (n .tableIs)) (c .before .before .before .before .before .before .not-negative-at .ensures) (c .before .before .before .before .before .if3 .left) in
+    let s = not-left (λ (b : Bool). b) (start-sign (now (a .index)) (a .number) _ (n .tableIs)) (not-negative-at .ensures) (if3 .left) in
     let e = c .before .before .before .before .dna-entry .ensures in
     let codes = placed-dna (now (a .index)) (now (a .sequence)) (a .number) k _ e in (
       c .before .before .decode-dna .ensures .0 ∙ own-placed-dna (now (a .index)) (now (a .sequence)) (a .number) (length (now (a .out))) h k s _ e,

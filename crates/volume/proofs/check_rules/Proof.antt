@@ -21,10 +21,13 @@ enum-known-r c = search needs
 returns : tie.Need-returns
 unfolding volumeRules
 returns c =
+    let check-sizes = c .before .before .before .check-sizes in
     let header = now ((c .before .before .before .before .before .before .before .args) .header) in
     let index = now ((c .before .before .before .before .before .before .before .args) .index) in
     let sequence = now ((c .before .before .before .before .before .before .before .args) .sequence) in
-    sym (refused-first (volumeSizeRules index sequence header) (indexRules index ++ (offsetRules index sequence header ++ (separatorRules index sequence ++ totalRules index sequence))) _ _ ((c .before .before .before .check-sizes) .ensures) ((c .before .r) .given .1) Refused Passed)
+    sym (refused-first (volumeSizeRules index sequence header)
+    (indexRules index ++ (offsetRules index sequence header ++ (separatorRules index sequence ++ totalRules index sequence))) _ _ (check-sizes .ensures)
+    ((c .before .r) .given .1) Refused Passed)
 
 enum-told : tie.Need-enum-told
 enum-told c = search needs
@@ -38,11 +41,17 @@ enum-known-r-2 c = search needs
 returns-2 : tie.Need-returns-2
 unfolding volumeRules
 returns-2 c =
+    let check-sizes = c .before .before .before .before .before .before .check-sizes in
+    let told = c .before .before .before .before .enum-told in
+    let check-index = c .before .before .before .check-index in
     let header = now ((c .before .before .before .before .before .before .before .before .before .before .args) .header) in
     let index = now ((c .before .before .before .before .before .before .before .before .before .before .args) .index) in
     let sequence = now ((c .before .before .before .before .before .before .before .before .before .before .args) .sequence) in
-    sym (passed-first (volumeSizeRules index sequence header) (indexRules index ++ (offsetRules index sequence header ++ (separatorRules index sequence ++ totalRules index sequence))) _ ((c .before .before .before .before .before .before .check-sizes) .ensures) ((c .before .before .before .before .enum-told) .given .1) Refused Passed
-    ∙ refused-first (indexRules index) (offsetRules index sequence header ++ (separatorRules index sequence ++ totalRules index sequence)) _ _ ((c .before .before .before .check-index) .ensures) ((c .before .r2) .given .1) Refused Passed)
+    sym (passed-first (volumeSizeRules index sequence header)
+    (indexRules index ++ (offsetRules index sequence header ++ (separatorRules index sequence ++ totalRules index sequence))) _ (check-sizes .ensures)
+    (told .given .1) Refused Passed
+    ∙ refused-first (indexRules index) (offsetRules index sequence header ++ (separatorRules index sequence ++ totalRules index sequence)) _ _
+    (check-index .ensures) ((c .before .r2) .given .1) Refused Passed)
 
 enum-told-2 : tie.Need-enum-told-2
 enum-told-2 c = search needs
@@ -56,11 +65,19 @@ check-contents-requires c κs =
 returns-3 : tie.Need-returns-3
 unfolding volumeRules
 returns-3 c =
+    let check-sizes = c .before .before .before .before .before .before .check-sizes in
+    let told = c .before .before .before .before .enum-told in
+    let check-index = c .before .before .before .check-index in
     let header = now ((c .before .before .before .before .before .before .before .before .before .before .args) .header) in
     let index = now ((c .before .before .before .before .before .before .before .before .before .before .args) .index) in
     let sequence = now ((c .before .before .before .before .before .before .before .before .before .before .args) .sequence) in
-    (c .check-contents) .ensures ∙ sym (passed-first (volumeSizeRules index sequence header) (indexRules index ++ (offsetRules index sequence header ++ (separatorRules index sequence ++ totalRules index sequence))) _ ((c .before .before .before .before .before .before .check-sizes) .ensures) ((c .before .before .before .before .enum-told) .given .1) Refused Passed
-    ∙ passed-first (indexRules index) (offsetRules index sequence header ++ (separatorRules index sequence ++ totalRules index sequence)) _ ((c .before .before .before .check-index) .ensures) ((c .before .enum-told2) .given .1) Refused Passed)
+    (c .check-contents) .ensures
+    ∙ sym
+    (passed-first (volumeSizeRules index sequence header)
+    (indexRules index ++ (offsetRules index sequence header ++ (separatorRules index sequence ++ totalRules index sequence))) _ (check-sizes .ensures)
+    (told .given .1) Refused Passed
+    ∙ passed-first (indexRules index) (offsetRules index sequence header ++ (separatorRules index sequence ++ totalRules index sequence)) _
+    (check-index .ensures) ((c .before .enum-told2) .given .1) Refused Passed)
 
 pub check-rules-spec : {M : Type 1} → statement M
 check-rules-spec =

@@ -13,7 +13,9 @@ use Rattle.volume.proofs.check_sizes.Tie as tie
 
 -- the rules after the first k decide where these passed
 abbrev Past : ℕ → tie.Start → Type 0
-Past k s = (x : Checked) → x ≡ checkedBy (drop k (volumeSizeRules (now (s .args .index)) (now (s .args .sequence)) (now (s .args .header)))) → x ≡ checkedBy (volumeSizeRules (now (s .args .index)) (now (s .args .sequence)) (now (s .args .header)))
+Past k s =
+    (x : Checked) → x ≡ checkedBy (drop k (volumeSizeRules (now (s .args .index)) (now (s .args .sequence)) (now (s .args .header)))) → x ≡ checkedBy
+    (volumeSizeRules (now (s .args .index)) (now (s .args .sequence)) (now (s .args .header)))
 
 past1 : (c : tie.Else1) → Past 1 (c .before)
 past1 c x e = rw (le-leb _ _ (c .if1 .left)) e

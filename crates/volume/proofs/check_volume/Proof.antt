@@ -17,8 +17,11 @@ enum-known-r c = search needs
 returns : tie.Need-returns
 unfolding volumeAnswer
 returns c =
-    let index = now ((c .before .before .before .before .before .before .before .args) .index) in
-    sym (refused-alone (volumeRules index (now ((c .before .before .before .before .before .before .before .args) .sequence)) (now ((c .before .before .before .before .before .before .before .args) .header))) _ ((c .before .before .before .check-rules) .ensures) Refused (Passed (volumeRecord index)) _ ((c .before .r) .given .1))
+    let a = c .before .before .before .before .before .before .before .args in
+    let check-rules = c .before .before .before .check-rules in
+    let index = now (a .index) in
+    sym (refused-alone (volumeRules index (now (a .sequence)) (now (a .header))) _ (check-rules .ensures) Refused (Passed (volumeRecord index)) _
+    ((c .before .r) .given .1))
 
 enum-told : tie.Need-enum-told
 enum-told c = search needs
@@ -53,9 +56,27 @@ trimmed-requires c κs = search needs
 returns-2 : tie.Need-returns-2
 unfolding volumeAnswer volumeRecord
 returns-2 c =
-    let index = now ((c .before .before .before .before .before .before .before .before .before .before .before .before .before .before .args) .index) in
-    rw ((c .trimmed) .ensures, (c .before .before .before .before .before .before .before .title-end) .ensures .0, (c .before .before .before .before .before .before .volume-type) .ensures, (c .before .before .before .before .before .sequence-count) .ensures .0, (c .before .before .before .before .residue-count) .ensures, (c .before .before .before .longest-length) .ensures, (c .before .before .title-length) .ensures .0, (c .before .timestamp-length) .ensures .0)
-    (sym (passed-alone (volumeRules index (now ((c .before .before .before .before .before .before .before .before .before .before .before .before .before .before .args) .sequence)) (now ((c .before .before .before .before .before .before .before .before .before .before .before .before .before .before .args) .header))) _ ((c .before .before .before .before .before .before .before .before .before .before .check-rules) .ensures) Refused (Passed (volumeRecord index)) ((c .before .before .before .before .before .before .before .before .enum-told) .given .1)))
+    let a = c .before .before .before .before .before .before .before .before .before .before .before .before .before .before .args in
+    let check-rules = c .before .before .before .before .before .before .before .before .before .before .check-rules in
+    let told = c .before .before .before .before .before .before .before .before .enum-told in
+    let title-end = c .before .before .before .before .before .before .before .title-end in
+    let volume-type = c .before .before .before .before .before .before .volume-type in
+    let sequence-count = c .before .before .before .before .before .sequence-count in
+    let residue-count = c .before .before .before .before .residue-count in
+    let longest-length = c .before .before .before .longest-length in
+    let index = now (a .index) in
+    rw (
+      (c .trimmed) .ensures,
+      title-end .ensures .0,
+      volume-type .ensures,
+      sequence-count .ensures .0,
+      residue-count .ensures,
+      longest-length .ensures,
+      (c .before .before .title-length) .ensures .0,
+      (c .before .timestamp-length) .ensures .0,
+    )
+    (sym (passed-alone (volumeRules index (now (a .sequence)) (now (a .header))) _ (check-rules .ensures) Refused (Passed (volumeRecord index))
+    (told .given .1)))
 
 pub check-volume-spec : {M : Type 1} → statement M
 check-volume-spec =

@@ -60,9 +60,29 @@ ambiguity-table-requires c κs = search needs
 returns-3 : tie.Need-returns-3
 unfolding indexOf
 returns-3 c =
+    let if1 = c .before .before .before .before .before .before .before .before .before .before .before .before .if1 in
+    let check-index = c .before .before .before .before .before .before .before .before .before .before .before .check-index in
+    let told = c .before .before .before .before .before .before .before .before .before .enum-told in
+    let volume-type = c .before .before .before .before .before .before .before .before .volume-type in
+    let title-length = c .before .before .before .before .before .before .before .title-length in
+    let timestamp-length = c .before .before .before .before .before .before .timestamp-length in
+    let sequence-count = c .before .before .before .before .before .sequence-count in
+    let residue-count = c .before .before .before .before .residue-count in
+    let longest-length = c .before .before .before .longest-length in
     let index = now ((c .before .before .before .before .before .before .before .before .before .before .before .before .before .before .args) .index) in
-    rw (le-leb _ _ ((c .before .before .before .before .before .before .before .before .before .before .before .before .if1) .left), (c .before .before .before .before .before .before .before .before .volume-type) .ensures, (c .before .before .before .before .before .before .before .title-length) .ensures .0, (c .before .before .before .before .before .before .timestamp-length) .ensures .0, (c .before .before .before .before .before .sequence-count) .ensures .0, (c .before .before .before .before .residue-count) .ensures, (c .before .before .before .longest-length) .ensures, (c .before .before .timestamp-end) .ensures .0, (c .before .sequence-table) .ensures .0, (c .ambiguity-table) .ensures .0)
-    (sym (passed-alone (indexRules index) _ ((c .before .before .before .before .before .before .before .before .before .before .before .check-index) .ensures) Refused (Read (indexOf index)) ((c .before .before .before .before .before .before .before .before .before .enum-told) .given .1)))
+    rw (
+      le-leb _ _ (if1 .left),
+      volume-type .ensures,
+      title-length .ensures .0,
+      timestamp-length .ensures .0,
+      sequence-count .ensures .0,
+      residue-count .ensures,
+      longest-length .ensures,
+      (c .before .before .timestamp-end) .ensures .0,
+      (c .before .sequence-table) .ensures .0,
+      (c .ambiguity-table) .ensures .0,
+    )
+    (sym (passed-alone (indexRules index) _ (check-index .ensures) Refused (Read (indexOf index)) (told .given .1)))
 
 pub read-index-spec : {M : Type 1} → statement M
 read-index-spec =

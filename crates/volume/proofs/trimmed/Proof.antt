@@ -28,7 +28,10 @@ byte-requires : tie.Need-byte-requires Inv-loop μ-loop
 byte-requires c κs = search needs
 
 returns : tie.Need-returns Inv-loop μ-loop
-returns c = let l = (c .before .before .before .loop) in sym (trim-stop (now ((c .before .before .before .before .before .args) .index)) ((c .before .before .before .before .before .args) .start) (l .n) (omega arith) (λ e. (c .if1) .taken ((c .before .byte) .ensures ∙ e))) ∙ l .inv .1
+returns c =
+    let a = c .before .before .before .before .before .args in
+    let l = (c .before .before .before .loop) in sym
+    (trim-stop (now (a .index)) (a .start) (l .n) (omega arith) (λ e. (c .if1) .taken ((c .before .byte) .ensures ∙ e))) ∙ l .inv .1
 
 sub-n : tie.Need-sub-n Inv-loop μ-loop
 sub-n c = search needs
@@ -37,7 +40,10 @@ loop-less : tie.Need-loop-less Inv-loop μ-loop
 loop-less c = search needs
 
 loop-again : tie.Need-loop-again Inv-loop μ-loop
-loop-again c = let l = (c .before .before .before .loop) in (search needs, sym (trim-less (now ((c .before .before .before .before .before .args) .index)) ((c .before .before .before .before .before .args) .start) (l .n) (omega arith) (sym ((c .before .byte) .ensures) ∙ (c .if1) .left)) ∙ l .inv .1)
+loop-again c =
+    let a = c .before .before .before .before .before .args in
+    let l = (c .before .before .before .loop) in
+    (search needs, sym (trim-less (now (a .index)) (a .start) (l .n) (omega arith) (sym ((c .before .byte) .ensures) ∙ (c .if1) .left)) ∙ l .inv .1)
 
 returns-2 : tie.Need-returns-2 Inv-loop μ-loop
 returns-2 c = let l = (c .before .loop) in let e : l .n ≡ 0 = omega arith in rw e at (l .inv .1)

@@ -23,7 +23,9 @@ protein-codes-requires : tie.Need-protein-codes-requires Inv-loop μ-loop
 protein-codes-requires c κs = search needs
 
 loop-holds : tie.Need-loop-holds Inv-loop μ-loop
-loop-holds c = (omega arith, refl, store-none (λ (k : ℕ). proteinCode (byteFrom (now ((c .before .before .before .args) .sequence)) ((c .before .before .before .args) .start) k)) 0 (now ((c .before .before .before .args) .out)))
+loop-holds c =
+    let a = c .before .before .before .args in
+    (omega arith, refl, store-none (λ (k : ℕ). proteinCode (byteFrom (now (a .sequence)) (a .start) k)) 0 (now (a .out)))
 
 slice-aggregate-code-of : tie.Need-slice-aggregate-code-of Inv-loop μ-loop
 slice-aggregate-code-of c = search needs

@@ -20,7 +20,12 @@ abbrev μ-loop : tie.MeasureT-loop
 μ-loop sequence start count out₀ m₀ out m = count - m
 
 loop-holds : tie.Need-loop-holds Inv-loop μ-loop
-loop-holds c = (omega arith, refl, store-none (baseAt (now ((c .before .before .args) .sequence)) ((c .before .before .args) .start)) 0 (now ((c .before .before .args) .out)))
+loop-holds c = (
+  omega arith,
+  refl,
+  store-none (baseAt (now ((c .before .before .args) .sequence)) ((c .before .before .args) .start)) 0
+      (now ((c .before .before .args) .out)),
+)
 
 add-bases : tie.Need-add-bases Inv-loop μ-loop
 add-bases c = search needs
@@ -83,10 +88,17 @@ loop-less : tie.Need-loop-less Inv-loop μ-loop
 loop-less c = search needs
 
 loop-again : tie.Need-loop-again Inv-loop μ-loop
-loop-again c = let l = (c .before .before .before .loop) in
+loop-again c =
+    let a = c .before .before .before .before .before .before .args in
+    let l = (c .before .before .before .loop) in
     let four = (c .bases) .result in
-    let m = l .m in
-    (omega arith, simp length-set (l .inv .1), ap (λ (o : List ℕ). set (set (set (set o (4 * m) (getD four 0 0)) (4 * m + 1) (getD four 1 0)) (4 * m + 2) (getD four 2 0)) (4 * m + 3) (getD four 3 0)) (l .inv .2) ∙ four-stored (now ((c .before .before .before .before .before .before .args) .sequence)) ((c .before .before .before .before .before .before .args) .start) m four (now ((c .before .before .before .before .before .before .args) .out)) (omega arith) ((c .bases) .ensures))
+    let m = l .m in (
+      omega arith,
+      simp length-set (l .inv .1),
+      ap
+          (λ (o : List ℕ). set (set (set (set o (4 * m) (getD four 0 0)) (4 * m + 1) (getD four 1 0)) (4 * m + 2) (getD four 2 0)) (4 * m + 3) (getD four 3 0))
+          (l .inv .2) ∙ four-stored (now (a .sequence)) (a .start) m four (now (a .out)) (omega arith) ((c .bases) .ensures),
+    )
 
 same-length : tie.Need-same-length Inv-loop μ-loop
 same-length c = (c .before .loop) .inv .1

@@ -1,6 +1,6 @@
 -- `sequence::corrections::check_table`: the two rules in their order. Assumes nothing.
 use mathlib.Core.Path.{_≡_, sym, _∙_}
-use mathlib.Core.Bool.{true, false}
+use mathlib.Core.Bool.{Bool, true, false}
 use native.Mathlib.Omega.{arith}
 use Prim.Native.Nat.{_+_}
 use denote.Ref.{now}
@@ -38,14 +38,18 @@ entries-fit-requires c κs =
     (w .ensures .1, entry-in-file (now (a .sequence)) (a .place) (a .end) (w .result) (n .result) t (omega arith) (w .ensures .0) (n .ensures))
 
 -- what the two tests were told, in the definition's terms
-table : (c : tie.After-entries-fit) → isTable (now (c .before .before .before .before .before .before .args .sequence)) (c .before .before .before .before .before .before .args .place) (c .before .before .before .before .before .before .args .end) ≡ true
+abbrev IsTable : tie.Start → Bool
+IsTable s = isTable (now (s .args .sequence)) (s .args .place) (s .args .end)
+
+abbrev Fit : tie.Start → Bool
+Fit s =
+    every (entryFits (now (s .args .sequence)) (s .args .place + 4) (entryWidth (now (s .args .sequence)) (s .args .place)) (s .args .l))
+    (entryCount (now (s .args .sequence)) (s .args .place) (s .args .end))
+
+table : (c : tie.After-entries-fit) → IsTable (c .before .before .before .before .before .before) ≡ true
 table c = sym (c .before .before .before .before .is-table .ensures) ∙ not-false _ (c .before .before .before .if1 .left)
 
-fit : (c : tie.After-entries-fit)
-    → c .entries-fit .result
-    ≡ every
-    (entryFits (now (c .before .before .before .before .before .before .args .sequence)) (c .before .before .before .before .before .before .args .place + 4) (entryWidth (now (c .before .before .before .before .before .before .args .sequence)) (c .before .before .before .before .before .before .args .place)) (c .before .before .before .before .before .before .args .l))
-    (entryCount (now (c .before .before .before .before .before .before .args .sequence)) (c .before .before .before .before .before .before .args .place) (c .before .before .before .before .before .before .args .end))
+fit : (c : tie.After-entries-fit) → c .entries-fit .result ≡ Fit (c .before .before .before .before .before .before)
 fit c = rw (c .before .before .entry-width .ensures .0, c .before .entry-count .ensures) at (c .entries-fit .ensures)
 
 returns-2 : tie.Need-returns-2

@@ -51,7 +51,8 @@ loop-again c =
     let x = (c .before .before .before .before .before .before .correction-at) in
     let y = (c .before .before .before .before .ambiguity-code) in
     let p = (c .before .before .paint) in
-    let next = corrected-next (now (a .sequence)) (a .entries) (a .w) (l .j) (now (a .out)) (l .out) (x .result) (y .result) (l .inv .2) (x .ensures .0) (y .ensures) in
+    let next = corrected-next (now (a .sequence)) (a .entries) (a .w) (l .j) (now (a .out)) (l .out) (x .result) (y .result) (l .inv .2) (x .ensures .0)
+    (y .ensures) in
     (omega arith, p .kept .0 ∙ l .inv .1, p .ensures ∙ next)
 
 same-length : tie.Need-same-length Inv-loop μ-loop

@@ -58,7 +58,8 @@ unfolding correctionOf
 add-t25 c =
     let a = (c .before .before .args) in
     let x = (c .entry-at) in
-    let s : x .result / 2 ^ (6 * a .w) % 2 ^ (2 * a .w - 4) + 1 ≤ 4096 = correction-small (a .w) (x .result) ((c .before .before .pre) .0) (x .ensures .1) .2 in
+    let s : x .result / 2 ^ (6 * a .w) % 2 ^ (2 * a .w - 4) + 1 ≤ 4096 = correction-small (a .w) (x .result) ((c .before .before .pre) .0)
+    (x .ensures .1) .2 in
     rw (power-shifted (2 * a .w - 4) (repeat-shift (a .w) ((c .before .before .pre) .0) .1)) (omega arith)
 
 returns : tie.Need-returns

@@ -57,8 +57,12 @@ loop-again c =
     let l = (c .before .before .before .before .before .before .loop) in
     let s = now (a .sequence) in
     let x = (c .before .before .before .before .correction-at) in
-    let e = fits-both s (a .entries) (a .w) (a .l) (l .j) (l .low) (x .result) (x .ensures .0) (l .inv .1) ((c .before .if1) .left) ((c .if2) .left) in
-    (omega arith, end-next s (a .entries) (a .w) (a .l) (l .j) (l .low) (x .result) (x .ensures .0) (l .inv .1), every-more (entryFits s (a .entries) (a .w) (a .l)) (l .j) (l .inv .2) e)
+    let e = fits-both s (a .entries) (a .w) (a .l) (l .j) (l .low) (x .result) (x .ensures .0) (l .inv .1) ((c .before .if1) .left) ((c .if2) .left) in (
+      omega arith,
+      end-next s (a .entries) (a .w) (a .l) (l .j) (l .low) (x .result) (x .ensures .0) (l .inv .1),
+      every-more
+          (entryFits s (a .entries) (a .w) (a .l)) (l .j) (l .inv .2) e,
+    )
 
 returns-3 : tie.Need-returns-3 Inv-loop μ-loop
 returns-3 c =

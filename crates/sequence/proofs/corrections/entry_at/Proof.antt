@@ -19,7 +19,10 @@ be-u64-requires : tie.Need-be-u64-requires
 be-u64-requires c κs = search needs
 
 returns-2 : tie.Need-returns-2
-returns-2 c = let e : (c .before .before .before .args) .w ≡ 8 = width-eight ((c .before .before .before .args) .w) (c .before .before .before .pre) ((c .before .if1) .left) in
+returns-2 c =
+    let a = c .before .before .before .args in
+    let p = c .before .before .before .pre in
+    let e : a .w ≡ 8 = width-eight (a .w) p ((c .before .if1) .left) in
     (rw e ((c .be-u64) .ensures), rw e (omega arith))
 
 pub entry-at-spec : {M : Type 1} → statement M

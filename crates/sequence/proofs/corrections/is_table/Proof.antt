@@ -33,15 +33,37 @@ add-if3-2 c = search needs
 
 returns-3 : tie.Need-returns-3
 unfolding isTable
-returns-3 c = simp (← ((c .before .be-u32) .ensures), ne-eqb _ _ ((c .before .before .before .if1) .left), le-leb _ _ ((c .before .before .if2) .left), ne-eqb _ _ ((c .if3) .taken))
+returns-3 c =
+    let if1 = c .before .before .before .if1 in
+    simp (← ((c .before .be-u32) .ensures), ne-eqb _ _ (if1 .left), le-leb _ _ ((c .before .before .if2) .left), ne-eqb _ _ ((c .if3) .taken))
 
 returns-4 : tie.Need-returns-4
 unfolding isTable
-returns-4 c = simp (← ((c .before .before .be-u32) .ensures), ne-eqb _ _ ((c .before .before .before .before .if1) .left), le-leb _ _ ((c .before .before .before .if2) .left), eq-eqb _ _ ((c .before .if3) .left), lt-leb _ _ ((c .if4) .taken))
+returns-4 c =
+    let if1 = c .before .before .before .before .if1 in
+    let if2 = c .before .before .before .if2 in
+    simp (
+      ← ((c .before .before .be-u32) .ensures),
+      ne-eqb _ _ (if1 .left),
+      le-leb _ _ (if2 .left),
+      eq-eqb _ _ ((c .before .if3) .left),
+      lt-leb _ _
+          ((c .if4) .taken),
+    )
 
 returns-5 : tie.Need-returns-5
 unfolding isTable
-returns-5 c = simp (← ((c .before .before .be-u32) .ensures), ne-eqb _ _ ((c .before .before .before .before .if1) .left), le-leb _ _ ((c .before .before .before .if2) .left), eq-eqb _ _ ((c .before .if3) .left), le-leb _ _ ((c .if4) .left))
+returns-5 c =
+    let if1 = c .before .before .before .before .if1 in
+    let if2 = c .before .before .before .if2 in
+    simp (
+      ← ((c .before .before .be-u32) .ensures),
+      ne-eqb _ _ (if1 .left),
+      le-leb _ _ (if2 .left),
+      eq-eqb _ _ ((c .before .if3) .left),
+      le-leb _ _
+          ((c .if4) .left),
+    )
 
 pub is-table-spec : {M : Type 1} → statement M
 is-table-spec =

@@ -34,9 +34,14 @@ loop-less : tie.Need-loop-less Inv-loop μ-loop
 loop-less c = search needs
 
 loop-again : tie.Need-loop-again Inv-loop μ-loop
-loop-again c = let l = (c .before .loop) in
-    let a = (c .before .before .args) in
-    (omega arith, simp length-set (l .inv .1), ap (λ (o : List ℕ). set o (a .start + l .i) (a .code)) (l .inv .2) ∙ store-next (λ (k : ℕ). a .code) (a .start) (l .i) (a .code) (now ((c .before .before .args) .out)) (omega arith) refl)
+loop-again c =
+    let l = (c .before .loop) in
+    let a = (c .before .before .args) in (
+      omega arith,
+      simp length-set (l .inv .1),
+      ap (λ (o : List ℕ). set o (a .start + l .i) (a .code)) (l .inv .2)
+          ∙ store-next (λ (k : ℕ). a .code) (a .start) (l .i) (a .code) (now ((c .before .before .args) .out)) (omega arith) refl,
+    )
 
 same-length : tie.Need-same-length Inv-loop μ-loop
 same-length c = (c .before .loop) .inv .1

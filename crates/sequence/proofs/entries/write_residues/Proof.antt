@@ -36,11 +36,13 @@ same-length c = search needs
 
 returns : tie.Need-returns
 returns c =
+    let p = c .before .before .before .before .before .before .before .before .before .before .before .before .pre in
+    let write-bases = c .before .before .before .before .before .before .before .before .write-bases in
     let a = (c .before .before .before .before .before .before .before .before .before .before .before .before .args) in
     let w = (c .before .before .before .before .before .entry-width) in
     let n = (c .before .before .before .before .entry-count) in
-    let written = residues-written (now (a .sequence)) (a .start) (a .place) (a .end) (a .l) ((c .before .before .before .before .before .before .before .before .before .before .before .before .pre) .1) (w .result) (n .result) (now (a .out)) in
-    written _ _ (w .ensures .0) (n .ensures) ((c .before .before .before .before .before .before .before .before .write-bases) .ensures) ((c .before .before .correct) .ensures)
+    let written = residues-written (now (a .sequence)) (a .start) (a .place) (a .end) (a .l) (p .1) (w .result) (n .result) (now (a .out)) in
+    written _ _ (w .ensures .0) (n .ensures) (write-bases .ensures) ((c .before .before .correct) .ensures)
 
 pub write-residues-spec : {M : Type 1} → statement M
 write-residues-spec =

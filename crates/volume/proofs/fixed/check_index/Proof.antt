@@ -18,8 +18,10 @@ enum-known-r c = search needs
 returns : tie.Need-returns
 unfolding indexRules
 returns c =
+    let check-title = c .before .before .before .check-title in
     let index = now ((c .before .before .before .before .before .args) .index) in
-    sym (refused-first (titleRules index) (timestampRules index ++ countRules index ++ tableRules index) _ _ ((c .before .before .before .check-title) .ensures) ((c .before .r) .given .1) Refused Passed)
+    sym (refused-first (titleRules index) (timestampRules index ++ countRules index ++ tableRules index) _ _ (check-title .ensures)
+    ((c .before .r) .given .1) Refused Passed)
 
 enum-told : tie.Need-enum-told
 enum-told c = search needs
@@ -33,9 +35,13 @@ enum-known-r-2 c = search needs
 returns-2 : tie.Need-returns-2
 unfolding indexRules
 returns-2 c =
+    let check-title = c .before .before .before .before .before .before .check-title in
+    let told = c .before .before .before .before .enum-told in
+    let check-timestamp = c .before .before .before .check-timestamp in
     let index = now ((c .before .before .before .before .before .before .before .before .args) .index) in
-    sym (passed-first (titleRules index) (timestampRules index ++ countRules index ++ tableRules index) _ ((c .before .before .before .before .before .before .check-title) .ensures) ((c .before .before .before .before .enum-told) .given .1) Refused Passed
-    ∙ refused-first (timestampRules index) (countRules index ++ tableRules index) _ _ ((c .before .before .before .check-timestamp) .ensures) ((c .before .r2) .given .1) Refused Passed)
+    sym (passed-first (titleRules index) (timestampRules index ++ countRules index ++ tableRules index) _ (check-title .ensures)
+    (told .given .1) Refused Passed
+    ∙ refused-first (timestampRules index) (countRules index ++ tableRules index) _ _ (check-timestamp .ensures) ((c .before .r2) .given .1) Refused Passed)
 
 enum-told-2 : tie.Need-enum-told-2
 enum-told-2 c = search needs
@@ -49,9 +55,14 @@ enum-known-r-3 c = search needs
 returns-3 : tie.Need-returns-3
 unfolding indexRules
 returns-3 c =
+    let check-title = c .before .before .before .before .before .before .before .before .before .check-title in
+    let told = c .before .before .before .before .before .before .before .enum-told in
+    let check-timestamp = c .before .before .before .before .before .before .check-timestamp in
+    let enum-told2 = c .before .before .before .before .enum-told2 in
     let index = now ((c .before .before .before .before .before .before .before .before .before .before .before .args) .index) in
-    sym (passed-first (titleRules index) (timestampRules index ++ countRules index ++ tableRules index) _ ((c .before .before .before .before .before .before .before .before .before .check-title) .ensures) ((c .before .before .before .before .before .before .before .enum-told) .given .1) Refused Passed
-    ∙ passed-first (timestampRules index) (countRules index ++ tableRules index) _ ((c .before .before .before .before .before .before .check-timestamp) .ensures) ((c .before .before .before .before .enum-told2) .given .1) Refused Passed
+    sym (passed-first (titleRules index) (timestampRules index ++ countRules index ++ tableRules index) _ (check-title .ensures)
+    (told .given .1) Refused Passed
+    ∙ passed-first (timestampRules index) (countRules index ++ tableRules index) _ (check-timestamp .ensures) (enum-told2 .given .1) Refused Passed
     ∙ refused-first (countRules index) (tableRules index) _ _ ((c .before .before .before .check-counts) .ensures) ((c .before .r3) .given .1) Refused Passed)
 
 enum-told-3 : tie.Need-enum-told-3
@@ -63,10 +74,18 @@ check-tables-requires c κs = search needs
 returns-4 : tie.Need-returns-4
 unfolding indexRules
 returns-4 c =
+    let check-title = c .before .before .before .before .before .before .before .before .before .check-title in
+    let told = c .before .before .before .before .before .before .before .enum-told in
+    let check-timestamp = c .before .before .before .before .before .before .check-timestamp in
+    let enum-told2 = c .before .before .before .before .enum-told2 in
+    let check-counts = c .before .before .before .check-counts in
     let index = now ((c .before .before .before .before .before .before .before .before .before .before .before .args) .index) in
-    (c .check-tables) .ensures ∙ sym (passed-first (titleRules index) (timestampRules index ++ countRules index ++ tableRules index) _ ((c .before .before .before .before .before .before .before .before .before .check-title) .ensures) ((c .before .before .before .before .before .before .before .enum-told) .given .1) Refused Passed
-    ∙ passed-first (timestampRules index) (countRules index ++ tableRules index) _ ((c .before .before .before .before .before .before .check-timestamp) .ensures) ((c .before .before .before .before .enum-told2) .given .1) Refused Passed
-    ∙ passed-first (countRules index) (tableRules index) _ ((c .before .before .before .check-counts) .ensures) ((c .before .enum-told3) .given .1) Refused Passed)
+    (c .check-tables) .ensures
+    ∙ sym
+    (passed-first (titleRules index) (timestampRules index ++ countRules index ++ tableRules index) _ (check-title .ensures)
+    (told .given .1) Refused Passed
+    ∙ passed-first (timestampRules index) (countRules index ++ tableRules index) _ (check-timestamp .ensures) (enum-told2 .given .1) Refused Passed
+    ∙ passed-first (countRules index) (tableRules index) _ (check-counts .ensures) ((c .before .enum-told3) .given .1) Refused Passed)
 
 pub check-index-spec : {M : Type 1} → statement M
 check-index-spec =

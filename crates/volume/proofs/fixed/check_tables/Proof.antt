@@ -21,19 +21,27 @@ abbrev Past : ℕ → tie.Start → Type 0
 Past k s = (x : Checked) → x ≡ checkedBy (drop k (tableRules (index s))) → x ≡ checkedBy (tableRules (index s))
 
 past1 : (c : tie.Else1) → Past 1 (c .before .before .before)
-past1 c x e = rw (le-leb _ _ (let h : tablesEnd (index (c .before .before .before)) ≤ length (index (c .before .before .before)) = omega arith in h)) e
+past1 c x e =
+    let i = index (c .before .before .before) in
+    rw (le-leb _ _ (let h : tablesEnd i ≤ length i = omega arith in h)) e
 
 tables-end-requires : tie.Need-tables-end-requires
 tables-end-requires c κs = search needs
 
 returns : tie.Need-returns
-returns c = rw (lt-leb _ _ (let h : length (index (c .before .before .before)) < tablesEnd (index (c .before .before .before)) = omega arith in h))
+returns c =
+    let i = index (c .before .before .before) in
+    rw (lt-leb _ _ (let h : length i < tablesEnd i = omega arith in h))
 
 returns-2 : tie.Need-returns-2
-returns-2 c = past1 (c .before) _ (rw (lt-leb _ _ (let h : tablesEnd (index (c .before .before .before .before)) < length (index (c .before .before .before .before)) = omega arith in h)))
+returns-2 c =
+    let i = index (c .before .before .before .before) in
+    past1 (c .before) _ (rw (lt-leb _ _ (let h : tablesEnd i < length i = omega arith in h)))
 
 returns-3 : tie.Need-returns-3
-returns-3 c = past1 (c .before) _ (rw (le-leb _ _ (let h : length (index (c .before .before .before .before)) ≤ tablesEnd (index (c .before .before .before .before)) = omega arith in h)))
+returns-3 c =
+    let i = index (c .before .before .before .before) in
+    past1 (c .before) _ (rw (le-leb _ _ (let h : length i ≤ tablesEnd i = omega arith in h)))
 
 pub check-tables-spec : {M : Type 1} → statement M
 check-tables-spec = tie.close (tie.spec tables-end-requires returns returns-2 returns-3)

@@ -25,16 +25,22 @@ Past k s = (x : Checked) → x ≡ checkedBy (drop k (timestampRules (index s)))
 
 -- the sign that the call told is that of the timestamp's length
 natural : (c : tie.After-not-negative-at) → c .not-negative-at .result ≡ nonNeg (statedTimestampLength (index (c .before .before .before .before .before)))
-natural c = c .not-negative-at .ensures ∙ ap (λ (x : ℕ). nonNeg (signedAt big 4 (index (c .before .before .before .before .before)) x)) (c .before .title-end2 .ensures .0)
+natural c =
+    let i = index (c .before .before .before .before .before) in
+    c .not-negative-at .ensures ∙ ap (λ (x : ℕ). nonNeg (signedAt big 4 i x)) (c .before .title-end2 .ensures .0)
 
 past1 : (c : tie.Else1) → Past 1 (c .before .before .before)
-past1 c x e = rw (le-leb _ _ (let h : timestampStart (index (c .before .before .before)) ≤ length (index (c .before .before .before)) = omega arith in h)) e
+past1 c x e =
+    let i = index (c .before .before .before) in
+    rw (le-leb _ _ (let h : timestampStart i ≤ length i = omega arith in h)) e
 
 past2 : (c : tie.Else2) → Past 2 (c .before .before .before .before .before .before)
 past2 c x e = past1 (c .before .before .before) _ (rw (passes (natural (c .before)) (c .if2 .left)) e)
 
 past3 : (c : tie.Else3) → Past 3 (c .before .before .before .before .before .before .before .before)
-past3 c x e = past2 (c .before .before) _ (rw (le-leb _ _ (let h : timestampEnd (index (c .before .before .before .before .before .before .before .before)) ≤ length (index (c .before .before .before .before .before .before .before .before)) = omega arith in h)) e)
+past3 c x e =
+    let i = index (c .before .before .before .before .before .before .before .before) in
+    past2 (c .before .before) _ (rw (le-leb _ _ (let h : timestampEnd i ≤ length i = omega arith in h)) e)
 
 title-end-requires : tie.Need-title-end-requires
 title-end-requires c κs = search needs
@@ -43,7 +49,9 @@ add-if1 : tie.Need-add-if1
 add-if1 c = search needs
 
 returns : tie.Need-returns
-returns c = rw (lt-leb _ _ (let h : length (index (c .before .before .before)) < timestampStart (index (c .before .before .before)) = omega arith in h))
+returns c =
+    let i = index (c .before .before .before) in
+    rw (lt-leb _ _ (let h : length i < timestampStart i = omega arith in h))
 
 title-end-requires-2 : tie.Need-title-end-requires-2
 title-end-requires-2 c κs = search needs
@@ -58,16 +66,22 @@ timestamp-end-requires : tie.Need-timestamp-end-requires
 timestamp-end-requires c κs = search needs
 
 returns-3 : tie.Need-returns-3
-returns-3 c = past2 (c .before .before) _ (rw (lt-leb _ _ (let h : length (index (c .before .before .before .before .before .before .before .before)) < timestampEnd (index (c .before .before .before .before .before .before .before .before)) = omega arith in h)))
+returns-3 c =
+    let i = index (c .before .before .before .before .before .before .before .before) in
+    past2 (c .before .before) _ (rw (lt-leb _ _ (let h : length i < timestampEnd i = omega arith in h)))
 
 timestamp-end-requires-2 : tie.Need-timestamp-end-requires-2
 timestamp-end-requires-2 c κs = search needs
 
 returns-4 : tie.Need-returns-4
-returns-4 c = past3 (c .before .before) _ (rw (ne-eqb _ _ (λ h. let g : timestampEnd (index (c .before .before .before .before .before .before .before .before .before .before)) % timestampAlignment ≡ 0 = h in c .if4 .taken (omega arith))))
+returns-4 c =
+    let i = index (c .before .before .before .before .before .before .before .before .before .before) in
+    past3 (c .before .before) _ (rw (ne-eqb _ _ (λ h. let g : timestampEnd i % timestampAlignment ≡ 0 = h in c .if4 .taken (omega arith))))
 
 returns-5 : tie.Need-returns-5
-returns-5 c = past3 (c .before .before) _ (rw (eq-eqb _ _ (let h : timestampEnd (index (c .before .before .before .before .before .before .before .before .before .before)) % timestampAlignment ≡ 0 = omega arith in h)))
+returns-5 c =
+    let i = index (c .before .before .before .before .before .before .before .before .before .before) in
+    past3 (c .before .before) _ (rw (eq-eqb _ _ (let h : timestampEnd i % timestampAlignment ≡ 0 = omega arith in h)))
 
 pub check-timestamp-spec : {M : Type 1} → statement M
 check-timestamp-spec =

@@ -70,10 +70,14 @@ title-end-requires : tie.Need-title-end-requires
 title-end-requires c κs = search needs
 
 returns-7 : tie.Need-returns-7
-returns-7 c = past6 (c .before .before) _ (rw (lt-leb _ _ (let h : length (index (c .before .before .before .before .before .before .before .before .before .before .before .before)) < titleEnd (index (c .before .before .before .before .before .before .before .before .before .before .before .before)) = omega arith in h)))
+returns-7 c =
+    let i = index (c .before .before .before .before .before .before .before .before .before .before .before .before) in
+    past6 (c .before .before) _ (rw (lt-leb _ _ (let h : length i < titleEnd i = omega arith in h)))
 
 returns-8 : tie.Need-returns-8
-returns-8 c = past6 (c .before .before) _ (rw (le-leb _ _ (let h : titleEnd (index (c .before .before .before .before .before .before .before .before .before .before .before .before)) ≤ length (index (c .before .before .before .before .before .before .before .before .before .before .before .before)) = omega arith in h)))
+returns-8 c =
+    let i = index (c .before .before .before .before .before .before .before .before .before .before .before .before) in
+    past6 (c .before .before) _ (rw (le-leb _ _ (let h : titleEnd i ≤ length i = omega arith in h)))
 
 pub check-title-spec : {M : Type 1} → statement M
 check-title-spec =

@@ -20,7 +20,9 @@ natural-at-requires c κs = search needs
 
 returns : tie.Need-returns
 unfolding longest
-returns c = (c .natural-at) .ensures .0 ∙ ap (λ (x : ℕ). toNat (signedAt big 4 (now ((c .before .before .before .args) .index)) (x + 12))) ((c .before .timestamp-end) .ensures .0)
+returns c =
+    let a = c .before .before .before .args in
+    (c .natural-at) .ensures .0 ∙ ap (λ (x : ℕ). toNat (signedAt big 4 (now (a .index)) (x + 12))) ((c .before .timestamp-end) .ensures .0)
 
 pub longest-length-spec : {M : Type 1} → statement M
 longest-length-spec =

@@ -13,7 +13,9 @@ le-i64-requires : tie.Need-le-i64-requires
 le-i64-requires c κs = search needs
 
 returns : tie.Need-returns
-returns c = ap (leZ (pos 0)) (toZ-ofZ w64 ((c .le-i64) .result) (record { sfits = (c .le-i64) .ok })) ∙ at-least-zero ((c .le-i64) .result) ∙ ap nonNeg ((c .le-i64) .ensures)
+returns c =
+    ap (leZ (pos 0)) (toZ-ofZ w64 ((c .le-i64) .result) (record { sfits = (c .le-i64) .ok })) ∙ at-least-zero ((c .le-i64) .result)
+    ∙ ap nonNeg ((c .le-i64) .ensures)
 
 pub not-negative-wide-at-spec : {M : Type 1} → statement M
 not-negative-wide-at-spec = tie.close (tie.spec le-i64-requires returns)

@@ -20,7 +20,9 @@ natural-wide-at-requires c κs = search needs
 
 returns : tie.Need-returns
 unfolding residues
-returns c = (c .natural-wide-at) .ensures ∙ ap (λ (x : ℕ). toNat (signedAt little 8 (now ((c .before .before .before .args) .index)) (x + 4))) ((c .before .timestamp-end) .ensures .0)
+returns c =
+    let a = c .before .before .before .args in
+    (c .natural-wide-at) .ensures ∙ ap (λ (x : ℕ). toNat (signedAt little 8 (now (a .index)) (x + 4))) ((c .before .timestamp-end) .ensures .0)
 
 pub residue-count-spec : {M : Type 1} → statement M
 residue-count-spec =

@@ -17,7 +17,12 @@ natural-at-requires c κs = search needs
 
 returns : tie.Need-returns
 unfolding sequences
-returns c = ((c .natural-at) .ensures .0 ∙ ap (λ (x : ℕ). toNat (signedAt big 4 (now ((c .before .before .before .args) .index)) x)) ((c .before .timestamp-end) .ensures .0), (c .natural-at) .ensures .1)
+returns c =
+    let a = c .before .before .before .args in (
+      (c .natural-at) .ensures .0
+          ∙ ap (λ (x : ℕ). toNat (signedAt big 4 (now (a .index)) x)) ((c .before .timestamp-end) .ensures .0),
+      (c .natural-at) .ensures .1,
+    )
 
 pub sequence-count-spec : {M : Type 1} → statement M
 sequence-count-spec = tie.close (tie.spec timestamp-end-requires natural-at-requires returns)

@@ -17,7 +17,9 @@ natural-at-requires c κs = search needs
 
 returns : tie.Need-returns
 unfolding timestampLength
-returns c = ((c .natural-at) .ensures .0 ∙ ap (λ (x : ℕ). toNat (signedAt big 4 (now ((c .before .before .before .args) .index)) x)) ((c .before .title-end) .ensures .0), (c .natural-at) .ensures .1)
+returns c =
+    let a = c .before .before .before .args in
+    ((c .natural-at) .ensures .0 ∙ ap (λ (x : ℕ). toNat (signedAt big 4 (now (a .index)) x)) ((c .before .title-end) .ensures .0), (c .natural-at) .ensures .1)
 
 pub timestamp-length-spec : {M : Type 1} → statement M
 timestamp-length-spec = tie.close (tie.spec title-end-requires natural-at-requires returns)

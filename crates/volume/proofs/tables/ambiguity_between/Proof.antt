@@ -30,9 +30,11 @@ offset-requires-2 : tie.Need-offset-requires-2 Inv-loop μ-loop
 offset-requires-2 c κs = search needs
 
 returns : tie.Need-returns Inv-loop μ-loop
-returns c = let l = (c .before .before .before .loop) in
+returns c =
+    let a = c .before .before .before .before .before .before .args in
+    let l = (c .before .before .before .loop) in
     let y = toZ-ofZ w32 ((c .before .offset2) .result) (record { sfits = (c .before .offset2) .ok }) ∙ (c .before .offset2) .ensures in
-    sym (every-fails (ambiguityBetween (now ((c .before .before .before .before .before .before .args) .index)) ((c .before .before .before .before .before .before .args) .s) ((c .before .before .before .before .before .before .args) .a)) ((c .before .before .before .before .before .before .args) .n) (l .i) (search needs) (rw (signed.not-above (l .inv .1) y ((c .if1) .taken))))
+    sym (every-fails (ambiguityBetween (now (a .index)) (a .s) (a .a)) (a .n) (l .i) (search needs) (rw (signed.not-above (l .inv .1) y ((c .if1) .taken))))
 
 add-offset : tie.Need-add-offset Inv-loop μ-loop
 add-offset c = search needs
@@ -42,11 +44,12 @@ offset-requires-3 c κs = search needs
 
 returns-2 : tie.Need-returns-2 Inv-loop μ-loop
 returns-2 c =
+    let a = c .before .before .before .before .before .before .before .before .args in
     let offset2 = c .before .before .before .offset2 in
     let l = (c .before .before .before .before .before .loop) in
     let y = toZ-ofZ w32 (offset2 .result) (record { sfits = offset2 .ok }) ∙ offset2 .ensures in
     let z = toZ-ofZ w32 ((c .before .offset3) .result) (record { sfits = (c .before .offset3) .ok }) ∙ (c .before .offset3) .ensures in
-    sym (every-fails (ambiguityBetween (now ((c .before .before .before .before .before .before .before .before .args) .index)) ((c .before .before .before .before .before .before .before .before .args) .s) ((c .before .before .before .before .before .before .before .before .args) .a)) ((c .before .before .before .before .before .before .before .before .args) .n) (l .i) (search needs) (rw (signed.falls y z ((c .if2) .taken), and-false)))
+    sym (every-fails (ambiguityBetween (now (a .index)) (a .s) (a .a)) (a .n) (l .i) (search needs) (rw (signed.falls y z ((c .if2) .taken), and-false)))
 
 add-i : tie.Need-add-i Inv-loop μ-loop
 add-i c = search needs
@@ -56,11 +59,16 @@ loop-less c = search needs
 
 loop-again : tie.Need-loop-again Inv-loop μ-loop
 loop-again c =
+    let a = c .before .before .before .before .before .before .before .before .args in
     let offset2 = c .before .before .before .offset2 in
     let l = (c .before .before .before .before .before .loop) in
     let y = toZ-ofZ w32 (offset2 .result) (record { sfits = offset2 .ok }) ∙ offset2 .ensures in
-    let z = toZ-ofZ w32 ((c .before .offset3) .result) (record { sfits = (c .before .offset3) .ok }) ∙ (c .before .offset3) .ensures in
-    (search needs, z, every-more (ambiguityBetween (now ((c .before .before .before .before .before .before .before .before .args) .index)) ((c .before .before .before .before .before .before .before .before .args) .s) ((c .before .before .before .before .before .before .before .before .args) .a)) (l .i) (l .inv .2) (rw (signed.above (l .inv .1) y ((c .before .before .if1) .left), signed.never-falls y z ((c .if2) .left))))
+    let z = toZ-ofZ w32 ((c .before .offset3) .result) (record { sfits = (c .before .offset3) .ok }) ∙ (c .before .offset3) .ensures in (
+      search needs,
+      z,
+      every-more (ambiguityBetween (now (a .index)) (a .s) (a .a)) (l .i) (l .inv .2)
+          (rw (signed.above (l .inv .1) y ((c .before .before .if1) .left), signed.never-falls y z ((c .if2) .left))),
+    )
 
 returns-3 : tie.Need-returns-3 Inv-loop μ-loop
 returns-3 c = let l = (c .before .loop) in sym (every-done _ _ _ (l .inv .0) ((c .loop-test) .left) (l .inv .2))

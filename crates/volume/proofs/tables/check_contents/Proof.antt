@@ -37,11 +37,12 @@ check-lengths-requires c κs =
 
 returns-2 : tie.Need-returns-2
 returns-2 c =
+    let check-offsets = c .before .before .before .check-offsets in
     let index = now ((c .before .before .before .before .before .before .before .args) .index) in
     let sequence = now ((c .before .before .before .before .before .before .before .args) .sequence) in
     let offsets = offsetRules index sequence (now ((c .before .before .before .before .before .before .before .args) .header)) in
     let lengths = separatorRules index sequence ++ totalRules index sequence in
-    (c .check-lengths) .ensures ∙ sym (passed-first offsets lengths _ ((c .before .before .before .check-offsets) .ensures) ((c .before .enum-told) .given .1) Refused Passed)
+    (c .check-lengths) .ensures ∙ sym (passed-first offsets lengths _ (check-offsets .ensures) ((c .before .enum-told) .given .1) Refused Passed)
 
 pub check-contents-spec : {M : Type 1} → statement M
 check-contents-spec =

@@ -41,27 +41,36 @@ Steps s = every (ambiguityBetween (index s) (sequenceTable (index s)) (ambiguity
 
 steps : (c : tie.After-ambiguity-between) → c .ambiguity-between .result ≡ Steps (c .before .before .before .before .before .before .before .before)
 steps c =
+    let sequence-table = c .before .before .before .before .before .sequence-table in
+    let ambiguity-table = c .before .before .before .before .ambiguity-table in
+    let sequence-count = c .before .before .before .sequence-count in
     let s = (c .before .before .before .before .before .before .before .before) in
     c .ambiguity-between .ensures
-    ∙ ap (λ (t : ℕ). every (ambiguityBetween (index s) t (c .before .before .before .before .ambiguity-table .result)) (c .before .before .before .sequence-count .result)) (c .before .before .before .before .before .sequence-table .ensures .0)
-    ∙ same-test (λ (t n : ℕ). every (ambiguityBetween (index s) (sequenceTable (index s)) t) n) (c .before .before .before .before .ambiguity-table .ensures .0) (c .before .before .before .sequence-count .ensures .0)
+    ∙ ap (λ (t : ℕ). every (ambiguityBetween (index s) t (ambiguity-table .result)) (sequence-count .result)) (sequence-table .ensures .0)
+    ∙ same-test (λ (t n : ℕ). every (ambiguityBetween (index s) (sequenceTable (index s)) t) n) (ambiguity-table .ensures .0) (sequence-count .ensures .0)
 
 abbrev Last : tie.Start → Bool
 Last s = eqZ (sequenceOffset (index s) (sequences (index s))) (pos (length (sequence s)))
 
 last : (c : tie.After-offset-is2) → c .offset-is2 .result ≡ Last (c .before .before .before .before .before .before .before .before .before .before)
 last c =
+    let sequence-table = c .before .before .before .before .before .before .before .sequence-table in
+    let sequence-count = c .before .before .before .before .before .sequence-count in
     let s = (c .before .before .before .before .before .before .before .before .before .before) in
-    c .offset-is2 .ensures ∙ same-test (λ (t n : ℕ). eqZ (offsetAt (index s) t n) (pos (length (sequence s)))) (c .before .before .before .before .before .before .before .sequence-table .ensures .0) (c .before .before .before .before .before .sequence-count .ensures .0)
+    c .offset-is2 .ensures
+    ∙ same-test (λ (t n : ℕ). eqZ (offsetAt (index s) t n) (pos (length (sequence s)))) (sequence-table .ensures .0) (sequence-count .ensures .0)
 
 abbrev LastAmbiguity : tie.Start → Bool
 LastAmbiguity s = eqZ (ambiguityOffset (index s) (sequences (index s))) (pos (length (sequence s)))
 
-last-ambiguity : (c : tie.After-offset-is3) → c .offset-is3 .result ≡ LastAmbiguity (c .before .before .before .before .before .before .before .before .before .before .before .before)
+last-ambiguity : (c : tie.After-offset-is3)
+    → c .offset-is3 .result ≡ LastAmbiguity (c .before .before .before .before .before .before .before .before .before .before .before .before)
 last-ambiguity c =
+    let ambiguity-table = c .before .before .before .before .before .before .before .before .ambiguity-table in
+    let sequence-count = c .before .before .before .before .before .before .before .sequence-count in
     let s = (c .before .before .before .before .before .before .before .before .before .before .before .before) in
     c .offset-is3 .ensures
-    ∙ same-test (λ (t n : ℕ). eqZ (offsetAt (index s) t n) (pos (length (sequence s)))) (c .before .before .before .before .before .before .before .before .ambiguity-table .ensures .0) (c .before .before .before .before .before .before .before .sequence-count .ensures .0)
+    ∙ same-test (λ (t n : ℕ). eqZ (offsetAt (index s) t n) (pos (length (sequence s)))) (ambiguity-table .ensures .0) (sequence-count .ensures .0)
 
 past1 : (c : tie.Else1) → Past 1 (c .before .before .before .before .before .before .before)
 past1 c x e = rw (passes (first (c .before)) (c .if1 .left)) e

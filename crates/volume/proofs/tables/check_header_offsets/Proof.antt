@@ -41,16 +41,23 @@ Steps s = every (notBelow (index s) (headerTable (index s))) (sequences (index s
 
 steps : (c : tie.After-never-falls) → c .never-falls .result ≡ Steps (c .before .before .before .before .before .before .before)
 steps c =
+    let timestamp-end = c .before .before .before .before .timestamp-end in
+    let sequence-count = c .before .before .before .sequence-count in
     let s = (c .before .before .before .before .before .before .before) in
-    c .never-falls .ensures ∙ same-test (λ (t n : ℕ). every (notBelow (index s) t) n) (ap (λ (x : ℕ). x + 16) (c .before .before .before .before .timestamp-end .ensures .0)) (c .before .before .before .sequence-count .ensures .0)
+    c .never-falls .ensures
+    ∙ same-test (λ (t n : ℕ). every (notBelow (index s) t) n) (ap (λ (x : ℕ). x + 16) (timestamp-end .ensures .0)) (sequence-count .ensures .0)
 
 abbrev Last : tie.Start → Bool
 Last s = eqZ (headerOffset (index s) (sequences (index s))) (pos (length (header s)))
 
 last : (c : tie.After-offset-is2) → c .offset-is2 .result ≡ Last (c .before .before .before .before .before .before .before .before .before)
 last c =
+    let timestamp-end = c .before .before .before .before .before .before .timestamp-end in
+    let sequence-count = c .before .before .before .before .before .sequence-count in
     let s = (c .before .before .before .before .before .before .before .before .before) in
-    c .offset-is2 .ensures ∙ same-test (λ (t n : ℕ). eqZ (offsetAt (index s) t n) (pos (length (header s)))) (ap (λ (x : ℕ). x + 16) (c .before .before .before .before .before .before .timestamp-end .ensures .0)) (c .before .before .before .before .before .sequence-count .ensures .0)
+    c .offset-is2 .ensures
+    ∙ same-test (λ (t n : ℕ). eqZ (offsetAt (index s) t n) (pos (length (header s)))) (ap (λ (x : ℕ). x + 16) (timestamp-end .ensures .0))
+    (sequence-count .ensures .0)
 
 past1 : (c : tie.Else1) → Past 1 (c .before .before .before .before .before .before)
 past1 c x e = rw (passes (first (c .before)) (c .if1 .left)) e

@@ -18,8 +18,11 @@ enum-known-r c = search needs
 
 returns : tie.Need-returns
 returns c =
-    let index = now ((c .before .before .before .before .before .before .before .args) .index) in
-    sym (refused-first (headerOffsetRules index (now ((c .before .before .before .before .before .before .before .args) .header))) (sequenceOffsetRules index (now ((c .before .before .before .before .before .before .before .args) .sequence))) _ _ ((c .before .before .before .check-header-offsets) .ensures) ((c .before .r) .given .1) Refused Passed)
+    let a = c .before .before .before .before .before .before .before .args in
+    let check-header-offsets = c .before .before .before .check-header-offsets in
+    let index = now (a .index) in
+    sym (refused-first (headerOffsetRules index (now (a .header))) (sequenceOffsetRules index (now (a .sequence))) _ _ (check-header-offsets .ensures)
+    ((c .before .r) .given .1) Refused Passed)
 
 enum-told : tie.Need-enum-told
 enum-told c = search needs
@@ -29,8 +32,13 @@ check-sequence-offsets-requires c κs = search needs
 
 returns-2 : tie.Need-returns-2
 returns-2 c =
-    let index = now ((c .before .before .before .before .before .before .before .args) .index) in
-    (c .check-sequence-offsets) .ensures ∙ sym (passed-first (headerOffsetRules index (now ((c .before .before .before .before .before .before .before .args) .header))) (sequenceOffsetRules index (now ((c .before .before .before .before .before .before .before .args) .sequence))) _ ((c .before .before .before .check-header-offsets) .ensures) ((c .before .enum-told) .given .1) Refused Passed)
+    let a = c .before .before .before .before .before .before .before .args in
+    let check-header-offsets = c .before .before .before .check-header-offsets in
+    let index = now (a .index) in
+    (c .check-sequence-offsets) .ensures
+    ∙ sym
+    (passed-first (headerOffsetRules index (now (a .header))) (sequenceOffsetRules index (now (a .sequence))) _ (check-header-offsets .ensures)
+    ((c .before .enum-told) .given .1) Refused Passed)
 
 pub check-offsets-spec : {M : Type 1} → statement M
 check-offsets-spec =

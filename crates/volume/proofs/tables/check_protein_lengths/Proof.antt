@@ -49,7 +49,8 @@ turn : (c : Turn) → ProteinTurn (index (c .before .before)) (sequence (c .befo
 turn c =
     let h = c .before .before in
     let below : h .loop .i < sequences (index h) = omega arith in
-    protein-turn (index h) (sequence h) (h .before .before .before .before .before .before .before .before .pre .2) _ (h .before .before .before .sequence-table .ensures .0) _ _ _ below (h .loop .inv .1)
+    protein-turn (index h) (sequence h) (h .before .before .before .before .before .before .before .before .pre .2) _
+    (h .before .before .before .sequence-table .ensures .0) _ _ _ below (h .loop .inv .1)
     (c .natural-place2 .ensures .0)
 
 -- byte 0 is NUL
@@ -70,11 +71,14 @@ sequence-count-requires c κs = search needs
 
 natural-place-requires : tie.Need-natural-place-requires Inv-loop μ-loop
 natural-place-requires c κs =
-    (omega arith, protein-read (now ((c .before .before .before .before .before .before .args) .index)) (now ((c .before .before .before .before .before .before .args) .sequence)) ((c .before .before .before .before .before .before .pre) .2) _ ((c .before .sequence-table) .ensures .0) 0 (omega arith))
+    let a = c .before .before .before .before .before .before .args in
+    let p = c .before .before .before .before .before .before .pre in
+    (omega arith, protein-read (now (a .index)) (now (a .sequence)) (p .2) _ ((c .before .sequence-table) .ensures .0) 0 (omega arith))
 
 loop-holds : tie.Need-loop-holds Inv-loop μ-loop
 loop-holds c =
-    let low = place-at (now ((c .before .before .before .before .before .before .before .args) .index)) 0 _ ((c .before .before .sequence-table) .ensures .0) (c .natural-place .ensures .0) in
+    let a = c .before .before .before .before .before .before .before .args in
+    let low = place-at (now (a .index)) 0 _ ((c .before .before .sequence-table) .ensures .0) (c .natural-place .ensures .0) in
     (search needs, low, refl, refl, search needs, refl)
 
 add-natural-place : tie.Need-add-natural-place Inv-loop μ-loop
@@ -82,7 +86,10 @@ add-natural-place c = search needs
 
 natural-place-requires-2 : tie.Need-natural-place-requires-2 Inv-loop μ-loop
 natural-place-requires-2 c κs =
-    (omega arith, protein-read (now ((c .before .before .before .before .before .before .before .before .before .args) .index)) (now ((c .before .before .before .before .before .before .before .before .before .args) .sequence)) ((c .before .before .before .before .before .before .before .before .before .pre) .2) _ ((c .before .before .before .before .sequence-table) .ensures .0) _ (omega arith))
+    let a = c .before .before .before .before .before .before .before .before .before .args in
+    let p = c .before .before .before .before .before .before .before .before .before .pre in
+    let sequence-table = c .before .before .before .before .sequence-table in
+    (omega arith, protein-read (now (a .index)) (now (a .sequence)) (p .2) _ (sequence-table .ensures .0) _ (omega arith))
 
 sub-end : tie.Need-sub-end Inv-loop μ-loop
 sub-end c = let low = turn c .rises in omega arith

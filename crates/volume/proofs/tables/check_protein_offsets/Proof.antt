@@ -41,16 +41,21 @@ Steps s = every (above (index s) (sequenceTable (index s))) (sequences (index s)
 
 steps : (c : tie.After-rises) → c .rises .result ≡ Steps (c .before .before .before .before .before .before .before)
 steps c =
+    let sequence-table = c .before .before .before .before .sequence-table in
+    let sequence-count = c .before .before .before .sequence-count in
     let s = (c .before .before .before .before .before .before .before) in
-    c .rises .ensures ∙ same-test (λ (t n : ℕ). every (above (index s) t) n) (c .before .before .before .before .sequence-table .ensures .0) (c .before .before .before .sequence-count .ensures .0)
+    c .rises .ensures ∙ same-test (λ (t n : ℕ). every (above (index s) t) n) (sequence-table .ensures .0) (sequence-count .ensures .0)
 
 abbrev Last : tie.Start → Bool
 Last s = eqZ (sequenceOffset (index s) (sequences (index s))) (pos (length (sequence s)))
 
 last : (c : tie.After-offset-is2) → c .offset-is2 .result ≡ Last (c .before .before .before .before .before .before .before .before .before)
 last c =
+    let sequence-table = c .before .before .before .before .before .before .sequence-table in
+    let sequence-count = c .before .before .before .before .before .sequence-count in
     let s = (c .before .before .before .before .before .before .before .before .before) in
-    c .offset-is2 .ensures ∙ same-test (λ (t n : ℕ). eqZ (offsetAt (index s) t n) (pos (length (sequence s)))) (c .before .before .before .before .before .before .sequence-table .ensures .0) (c .before .before .before .before .before .sequence-count .ensures .0)
+    c .offset-is2 .ensures
+    ∙ same-test (λ (t n : ℕ). eqZ (offsetAt (index s) t n) (pos (length (sequence s)))) (sequence-table .ensures .0) (sequence-count .ensures .0)
 
 past1 : (c : tie.Else1) → Past 1 (c .before .before .before .before .before .before)
 past1 c x e = rw (passes (first (c .before)) (c .if1 .left)) e

@@ -17,7 +17,8 @@ returns : tie.Need-returns
 returns c = rw (sym ((c .before .before .is-protein) .ensures) ∙ (c .before .if1) .taken) ((c .check-protein-offsets) .ensures)
 
 check-dna-offsets-requires : tie.Need-check-dna-offsets-requires
-check-dna-offsets-requires c κs = omega (arith, third-table (now ((c .before .before .before .before .args) .index)) (sym ((c .before .is-protein) .ensures) ∙ (c .if1) .left))
+check-dna-offsets-requires c κs =
+    omega (arith, third-table (now ((c .before .before .before .before .args) .index)) (sym ((c .before .is-protein) .ensures) ∙ (c .if1) .left))
 
 returns-2 : tie.Need-returns-2
 returns-2 c = rw (sym ((c .before .before .is-protein) .ensures) ∙ (c .before .if1) .left) ((c .check-dna-offsets) .ensures)

@@ -12,7 +12,9 @@ residue-count-requires : tie.Need-residue-count-requires
 residue-count-requires c κs = search needs
 
 returns : tie.Need-returns
-returns c = rw (ne-eqb _ _ (λ h. let g : (c .before .before .before .args) .sum ≡ residues (now ((c .before .before .before .args) .index)) = h in (c .if1) .taken (omega arith)))
+returns c =
+    let a = c .before .before .before .args in
+    rw (ne-eqb _ _ (λ h. let g : a .sum ≡ residues (now (a .index)) = h in (c .if1) .taken (omega arith)))
 
 longest-length-requires : tie.Need-longest-length-requires
 longest-length-requires c κs = search needs

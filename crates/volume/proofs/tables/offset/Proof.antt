@@ -34,8 +34,9 @@ be-i32-requires c κs = search needs
 returns : tie.Need-returns
 unfolding offsetAt
 returns c =
-    let s = (c .before .before .before .args) .table + 4 * (c .before .before .before .args) .k in
-    toZ-ofZ w32 ((c .be-i32) .result) (record { sfits = (c .be-i32) .ok }) ∙ (c .be-i32) .ensures ∙ part-field (now ((c .before .before .before .args) .index)) s (s + 4) refl
+    let a = c .before .before .before .args in
+    let s = a .table + 4 * a .k in
+    toZ-ofZ w32 ((c .be-i32) .result) (record { sfits = (c .be-i32) .ok }) ∙ (c .be-i32) .ensures ∙ part-field (now (a .index)) s (s + 4) refl
 
 pub offset-spec : {M : Type 1} → statement M
 offset-spec =
