@@ -28,9 +28,6 @@ returns c =
     set-short (now (a .index)) (now (a .metadata)) (now (a .sequence)) (now (a .results)) _ _ ((c .number2) .ensures) (lt-leb 80 _ ((c .before .if1) .taken))
     (sym ((c .before .before .before .before .before .check-set) .ensures) ∙ (c .before .before .before .set) .given .1)
 
-cast-t12 : tie.Need-cast-t12
-cast-t12 c = search needs
-
 cast-t13 : tie.Need-cast-t13
 cast-t13 c = search needs
 
@@ -48,6 +45,9 @@ cast-t17 c = search needs
 
 cast-t18 : tie.Need-cast-t18
 cast-t18 c = search needs
+
+cast-t19 : tie.Need-cast-t19
+cast-t19 c = search needs
 
 slice-aggregate-put-results : tie.Need-slice-aggregate-put-results
 slice-aggregate-put-results c = search needs
@@ -79,13 +79,13 @@ gull-time-check-set-spec =
     enum-known-set
     number-requires-2
     returns
-    cast-t12
     cast-t13
     cast-t14
     cast-t15
     cast-t16
     cast-t17
     cast-t18
+    cast-t19
     slice-aggregate-put-results
     put-results-requires
     returns-2
