@@ -23,7 +23,6 @@ use Rattle.answers.specs.declared.Refusal.the-variants.{BadHeader}
 use Rattle.elements.specs.declared.Span.{Span}
 use Rattle.elements.specs.declared.SpanAnswer.{SpanAnswer}
 use Rattle.elements.specs.declared.SpanAnswer.the-variants as S
-use Rattle.elements.specs.declared.IntegerAnswer.{IntegerAnswer}
 use Rattle.elements.specs.declared.IntegerAnswer.the-variants as I
 use Rattle.elements.specs.Grammar.{inRange}
 use Rattle.elements.specs.Parts.{span, bytesOf, partAt, integerAllowed, integerPart, longPart, textPart, Within, integerOf, integerIn, integerAt, textAt}
