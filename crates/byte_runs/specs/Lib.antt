@@ -1,4 +1,5 @@
 pub mod Sixes
+pub mod Begun
 pub mod Bytes
 pub mod Rules
 pub mod Bodies

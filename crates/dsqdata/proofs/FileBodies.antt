@@ -7,8 +7,9 @@ use Prim.Native.Nat.{ℕ, zero, suc, _+_, _*_, _-_, _/_, _^_, _≤_, _<_}
 use native.Mathlib.Omega.{arith}
 use native.Mathlib.Nat.{min-eq-left}
 use lib.ListN.{length, take, drop, length-take, length-drop}
-use lib.Seq.{slice, ext-getD, getD-drop, drop-at, take-add, length-take-le}
+use lib.Seq.{slice, ext-getD, getD-drop, drop-at}
 use Rattle.laws.specs.Digits.{allBelow}
+use Rattle.laws.proofs.Parts.{slice-part}
 use Rattle.fields.specs.Number.{Order, number, bytesAt, unsignedAt}
 use Rattle.fields.proofs.Laws.{unsigned-bytes}
 use Rattle.packets.specs.Bytes.{packetsOf, bytesOf}
@@ -48,12 +49,6 @@ body-packets s h =
     let p : k < packetsIn s = omega (arith, body-length s) in
     let g : k < length (drop 8 s) / 4 = omega (arith, length-drop 8 s) in
     body-at s k p ∙ (packet-is s k (byte-place k (omega arith)) ∙ sym (packets-at (drop 8 s) k g)))
-
-slice-part : (from to : ℕ) (xs : List ℕ) → from ≤ to → from ≤ length xs → take (to - from) (drop from xs) ≡ slice from to xs
-slice-part from to xs h l =
-    let e : from + (to - from) ≡ to = omega arith in
-    sym (drop-at (take from xs) (take (to - from) (drop from xs)) from (length-take-le from xs l))
-    ∙ (ap (drop from) (sym (take-add from (to - from) xs)) ∙ ap (λ (n : ℕ). drop from (take n xs)) e)
 
 -- .. so a run is what the bytes of its packets stand for ..
 module _ (a : ℕ) (s : List ℕ) (from to start end : ℕ) (low : from < to) (high : to ≤ packetsIn s) (fits : length s ≤ 2147483647)

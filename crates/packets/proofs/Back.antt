@@ -112,7 +112,15 @@ last-back a p h e = bool-cases (isFiveBit p) five two
         let l : length ds ≡ 15 = length-digits 2 15 p in
         let k : isTwoBit a ds ≡ true = plain-two a ds (final-nucleic p t a e) ∙ two-plain-codes p t in
         let z : length ds ≤ size a ds = omega (arith, size-two a ds (length ds) k) in
-        rw (residues-two p t, run-last a ds z, packet-two a ds (length ds) k, le-leb (length ds) 15 (omega arith), take-all 15 ds (omega arith), value-digits 2 15 p)
+        rw (
+          residues-two p t,
+          run-last a ds z,
+          packet-two a ds (length ds) k,
+          le-leb (length ds) 15 (omega arith),
+          take-all 15 ds
+              (omega arith),
+          value-digits 2 15 p,
+        )
         (ap (λ (x : ℕ). x ∷ []) (two-last p h (final-bit a p e) t))
 
 -- a packet of 5-bit codes comes back only where the rule does not want fifteen plain codes together
@@ -144,7 +152,17 @@ inner-back a p rest h e more apart = bool-cases (isFiveBit p) five two
         let z : size a (ds ++ rest) ≡ 15 = size-two a (ds ++ rest) (length (ds ++ rest)) k in
         let m : size a (ds ++ rest) < length (ds ++ rest) = omega arith in
         let long : leb (length (ds ++ rest)) 15 ≡ false = lt-leb (length (ds ++ rest)) 15 (omega arith) in
-        rw (r, run-more a (ds ++ rest) m, z, drop-at ds rest 15 l, packet-two a (ds ++ rest) (length (ds ++ rest)) k, long, take-at ds rest 15 l, value-digits 2 15 p)
+        rw (
+          r,
+          run-more a (ds ++ rest) m,
+          z,
+          drop-at ds rest 15 l,
+          packet-two a (ds ++ rest)
+              (length (ds ++ rest)) k,
+          long,
+          take-at ds rest 15 l,
+          value-digits 2 15 p,
+        )
         (ap (λ (x : ℕ). x ∷ run a rest) (two-inner p h (inner-bit a p e) t))
 
 -- ---- amino runs

@@ -33,17 +33,17 @@ unfolding small agree
 all-small = refl
 
 -- one byte of the masked number
-small-byte : (x v j : ℕ) → v < 256 → x / 2 ^ j % 256 ≡ v → 4244438268 / 2 ^ j % 256 ≡ 252 → ltb (bitAnd x 4244438268 / 2 ^ j % 256) 1 ≡ ltb v 4
+small-byte : (x v j : ℕ) → v < 256 → x / 2 ^ j % 256 ≡ v → 0xfcfcfcfc / 2 ^ j % 256 ≡ 252 → ltb (bitAnd x 0xfcfcfcfc / 2 ^ j % 256) 1 ≡ ltb v 4
 unfolding small
 small-byte x v j h e m =
-    rw (cut-byte x 4244438268 j, e, m) (agree-same (ltb (bitAnd v 252) 1) (ltb v 4) (every-at small 256 v h all-small))
+    rw (cut-byte x 0xfcfcfcfc j, e, m) (agree-same (ltb (bitAnd v 252) 1) (ltb v 4) (every-at small 256 v h all-small))
 
 module _ (a b c d : ℕ) (ha : a < 256) (hb : b < 256) (hc : c < 256) (hd : d < 256) where
   abbrev number : ℕ
   number = a + b * 256 + c * 65536 + d * 16777216
 
   abbrev masked : ℕ
-  masked = bitAnd number 4244438268
+  masked = bitAnd number 0xfcfcfcfc
 
   t₀ : ltb (masked / 2 ^ 0 % 256) 1 ≡ ltb a 4
   t₀ = let e : number / 1 % 256 ≡ a = omega arith in small-byte number a 0 ha e refl
@@ -83,7 +83,7 @@ module _ (a b c d : ℕ) (ha : a < 256) (hb : b < 256) (hc : c < 256) (hd : d < 
   -- .. and back
   pub none-masked : a < 4 → b < 4 → c < 4 → d < 4 → eqb masked 0 ≡ true
   none-masked ka kb kc kd =
-      let m : masked ≤ 4244438268 = and-le-r number 4244438268 in
+      let m : masked ≤ 0xfcfcfcfc = and-le-r number 0xfcfcfcfc in
       let z₀ : masked / 1 % 256 < 1 = ltb-true _ 1 (t₀ ∙ lt-ltb a 4 ka) in
       let z₁ : masked / 256 % 256 < 1 = ltb-true _ 1 (t₁ ∙ lt-ltb b 4 kb) in
       let z₂ : masked / 65536 % 256 < 1 = ltb-true _ 1 (t₂ ∙ lt-ltb c 4 kc) in
@@ -107,11 +107,12 @@ module _ (a b c d : ℕ) (ha : a < 256) (hb : b < 256) (hc : c < 256) (hd : d < 
 module _ (cs : List ℕ) (bytes : (k : ℕ) → getD cs k 0 < 256) where
   -- the mask of four codes
   abbrev Low : ℕ → Bool
-  Low i = eqb (bitAnd (fourFrom cs i) 4244438268) 0
+  Low i = eqb (bitAnd (fourFrom cs i) 0xfcfcfcfc) 0
 
   low-at : (i k : ℕ) → Low i ≡ true → i ≤ k → k < i + 4 → getD cs k 0 < 4
   low-at i k e l h =
-      let m = masked-none (getD cs i 0) (getD cs (i + 1) 0) (getD cs (i + 2) 0) (getD cs (i + 3) 0) (bytes i) (bytes (i + 1)) (bytes (i + 2)) (bytes (i + 3)) e in
+      let m = masked-none (getD cs i 0) (getD cs (i + 1) 0) (getD cs (i + 2) 0) (getD cs (i + 3) 0) (bytes i) (bytes (i + 1)) (bytes (i + 2))
+      (bytes (i + 3)) e in
       bool-cases (eqb k i)
       (λ t. rw (eqb-true k i t) (m .0))
       (λ t₀.
@@ -141,12 +142,12 @@ module _ (cs : List ℕ) (bytes : (k : ℕ) → getD cs k 0 < 256) where
       below-plain 15 cs l (below-all 4 (take 15 cs) (λ i h. rw (getD-take 15 cs i 0 (omega arith)) (f i (omega arith))))
 
   pub plain-fours : (a b c d : ℕ) → 15 ≤ length cs → a ≡ fourFrom cs 0 → b ≡ fourFrom cs 4 → c ≡ fourFrom cs 8 → d ≡ fourFrom cs 11
-      → eqb (bitOr (bitOr (bitAnd a 4244438268) (bitAnd b 4244438268)) (bitOr (bitAnd c 4244438268) (bitAnd d 4244438268))) 0 ≡ plain 15 cs
+      → eqb (bitOr (bitOr (bitAnd a 0xfcfcfcfc) (bitAnd b 0xfcfcfcfc)) (bitOr (bitAnd c 0xfcfcfcfc) (bitAnd d 0xfcfcfcfc))) 0 ≡ plain 15 cs
   plain-fours a b c d l ea eb ec ed =
-      let s : eqb (bitOr (bitOr (bitAnd a 4244438268) (bitAnd b 4244438268)) (bitOr (bitAnd c 4244438268) (bitAnd d 4244438268))) 0
+      let s : eqb (bitOr (bitOr (bitAnd a 0xfcfcfcfc) (bitAnd b 0xfcfcfcfc)) (bitOr (bitAnd c 0xfcfcfcfc) (bitAnd d 0xfcfcfcfc))) 0
       ≡ ((Low 0 && Low 4) && (Low 8 && Low 11)) =
-      or-none (bitOr (bitAnd a 4244438268) (bitAnd b 4244438268)) (bitOr (bitAnd c 4244438268) (bitAnd d 4244438268))
-      ∙ rw (or-none (bitAnd a 4244438268) (bitAnd b 4244438268), or-none (bitAnd c 4244438268) (bitAnd d 4244438268), ea, eb, ec, ed) in
+      or-none (bitOr (bitAnd a 0xfcfcfcfc) (bitAnd b 0xfcfcfcfc)) (bitOr (bitAnd c 0xfcfcfcfc) (bitAnd d 0xfcfcfcfc))
+      ∙ rw (or-none (bitAnd a 0xfcfcfcfc) (bitAnd b 0xfcfcfcfc), or-none (bitAnd c 0xfcfcfcfc) (bitAnd d 0xfcfcfcfc), ea, eb, ec, ed) in
       s
       ∙ bool-cases (plain 15 cs)
       (λ e.
@@ -178,13 +179,13 @@ module _ (cs : List ℕ) (bytes : (k : ℕ) → getD cs k 0 < 256) where
 
 -- four codes by a product: all are tried
 gathered : ℕ → Bool
-gathered v = eqb ((v / 64 + v / 16 % 4 * 256 + v / 4 % 4 * 65536 + v % 4 * 16777216) * 1074791425 / 16777216 % 256) v
+gathered v = eqb ((v / 64 + v / 16 % 4 * 256 + v / 4 % 4 * 65536 + v % 4 * 16777216) * 0x40100401 / 16777216 % 256) v
 
 all-gathered : every gathered 256 ≡ true
 unfolding gathered
 all-gathered = refl
 
-gather : (a b c d : ℕ) → a < 4 → b < 4 → c < 4 → d < 4 → (a + b * 256 + c * 65536 + d * 16777216) * 1074791425 / 16777216 % 256 ≡ a * 64 + b * 16 + c * 4 + d
+gather : (a b c d : ℕ) → a < 4 → b < 4 → c < 4 → d < 4 → (a + b * 256 + c * 65536 + d * 16777216) * 0x40100401 / 16777216 % 256 ≡ a * 64 + b * 16 + c * 4 + d
 unfolding gathered
 gather a b c d ha hb hc hd =
     let v = a * 64 + b * 16 + c * 4 + d in
@@ -201,7 +202,8 @@ gather a b c d ha hb hc hd =
 low-three : (a b c d w : ℕ) → b < 4 → c < 4 → d < 4 → w ≡ a * 64 + b * 16 + c * 4 + d → w % 64 ≡ b * 16 + c * 4 + d
 low-three a b c d w hb hc hd e = omega arith
 
-four-steps : (v₀ v₁ v₂ v₃ v₄ a b c d : ℕ) → v₁ ≡ v₀ * 4 + a → v₂ ≡ v₁ * 4 + b → v₃ ≡ v₂ * 4 + c → v₄ ≡ v₃ * 4 + d → v₄ ≡ v₀ * 256 + (a * 64 + b * 16 + c * 4 + d)
+four-steps : (v₀ v₁ v₂ v₃ v₄ a b c d : ℕ) → v₁ ≡ v₀ * 4 + a → v₂ ≡ v₁ * 4 + b → v₃ ≡ v₂ * 4 + c → v₄ ≡ v₃ * 4 + d → v₄ ≡ v₀ * 256 +
+    (a * 64 + b * 16 + c * 4 + d)
 four-steps v₀ v₁ v₂ v₃ v₄ a b c d e f g h = omega arith
 
 three-steps : (v₀ v₁ v₂ v₃ a b c : ℕ) → v₁ ≡ v₀ * 4 + a → v₂ ≡ v₁ * 4 + b → v₃ ≡ v₂ * 4 + c → v₃ ≡ v₀ * 64 + (a * 16 + b * 4 + c)
@@ -214,25 +216,34 @@ module _ (cs : List ℕ) (e : plain 15 cs ≡ true) where
   code : (k : ℕ) → k < 15 → getD cs k 0 < 4
   code k h = rw (getD-take 15 cs k 0 h) at (below-at 4 k (take 15 cs) (omega arith) (plain-below 15 cs e))
 
-  four : (i x : ℕ) → i + 4 ≤ 15 → x ≡ fourFrom cs i * 1074791425 / 16777216 % 256 → x ≡ getD cs i 0 * 64 + getD cs (i + 1) 0 * 16 + getD cs (i + 2) 0 * 4 + getD cs (i + 3) 0
+  four : (i x : ℕ) → i + 4 ≤ 15 → x ≡ fourFrom cs i * 0x40100401 / 16777216 % 256 → x ≡ getD cs i 0 * 64 + getD cs (i + 1) 0 * 16 + getD cs
+      (i + 2) 0 * 4 + getD cs (i + 3) 0
   four i x h f =
-      f ∙ gather (getD cs i 0) (getD cs (i + 1) 0) (getD cs (i + 2) 0) (getD cs (i + 3) 0) (code i (omega arith)) (code (i + 1) (omega arith)) (code (i + 2) (omega arith)) (code (i + 3) (omega arith))
+      f ∙ gather (getD cs i 0) (getD cs (i + 1) 0) (getD cs (i + 2) 0) (getD cs (i + 3) 0) (code i (omega arith)) (code (i + 1) (omega arith))
+      (code (i + 2) (omega arith)) (code (i + 3) (omega arith))
 
   more : (j : ℕ) → j < 15 → value 2 0 (take (j + 1) cs) ≡ value 2 0 (take j cs) * 4 + getD cs j 0
   more j h = two-more j cs (omega (arith, plain-long 15 cs e))
 
-  pub bases-sum : (x y z w : ℕ) → x ≡ fourFrom cs 0 * 1074791425 / 16777216 % 256 → y ≡ fourFrom cs 4 * 1074791425 / 16777216 % 256
-      → z ≡ fourFrom cs 8 * 1074791425 / 16777216 % 256 → w ≡ fourFrom cs 11 * 1074791425 / 16777216 % 256
+  pub bases-sum : (x y z w : ℕ) → x ≡ fourFrom cs 0 * 0x40100401 / 16777216 % 256 → y ≡ fourFrom cs 4 * 0x40100401 / 16777216 % 256
+      → z ≡ fourFrom cs 8 * 0x40100401 / 16777216 % 256 → w ≡ fourFrom cs 11 * 0x40100401 / 16777216 % 256
       → x * 4194304 + y * 16384 + z * 64 + w % 64 ≡ twoBitPart cs
   bases-sum x y z w ex ey ez ew =
       let fx = four 0 x (omega arith) ex in
       let fy = four 4 y (omega arith) ey in
       let fz = four 8 z (omega arith) ez in
       let fw = four 11 w (omega arith) ew in
-      let r = low-three (getD cs 11 0) (getD cs 12 0) (getD cs 13 0) (getD cs 14 0) w (code 12 (omega arith)) (code 13 (omega arith)) (code 14 (omega arith)) fw in
-      let v₄ = four-steps (value 2 0 (take 0 cs)) (value 2 0 (take 1 cs)) (value 2 0 (take 2 cs)) (value 2 0 (take 3 cs)) (value 2 0 (take 4 cs)) (getD cs 0 0) (getD cs 1 0) (getD cs 2 0) (getD cs 3 0) (more 0 (omega arith)) (more 1 (omega arith)) (more 2 (omega arith)) (more 3 (omega arith)) in
-      let v₈ = four-steps (value 2 0 (take 4 cs)) (value 2 0 (take 5 cs)) (value 2 0 (take 6 cs)) (value 2 0 (take 7 cs)) (value 2 0 (take 8 cs)) (getD cs 4 0) (getD cs 5 0) (getD cs 6 0) (getD cs 7 0) (more 4 (omega arith)) (more 5 (omega arith)) (more 6 (omega arith)) (more 7 (omega arith)) in
-      let v₁₂ = four-steps (value 2 0 (take 8 cs)) (value 2 0 (take 9 cs)) (value 2 0 (take 10 cs)) (value 2 0 (take 11 cs)) (value 2 0 (take 12 cs)) (getD cs 8 0) (getD cs 9 0) (getD cs 10 0) (getD cs 11 0) (more 8 (omega arith)) (more 9 (omega arith)) (more 10 (omega arith)) (more 11 (omega arith)) in
-      let v₁₅ = three-steps (value 2 0 (take 12 cs)) (value 2 0 (take 13 cs)) (value 2 0 (take 14 cs)) (value 2 0 (take 15 cs)) (getD cs 12 0) (getD cs 13 0) (getD cs 14 0) (more 12 (omega arith)) (more 13 (omega arith)) (more 14 (omega arith)) in
+      let r = low-three (getD cs 11 0) (getD cs 12 0) (getD cs 13 0) (getD cs 14 0) w (code 12 (omega arith)) (code 13 (omega arith))
+      (code 14 (omega arith)) fw in
+      let v₄ = four-steps (value 2 0 (take 0 cs)) (value 2 0 (take 1 cs)) (value 2 0 (take 2 cs)) (value 2 0 (take 3 cs)) (value 2 0 (take 4 cs))
+      (getD cs 0 0) (getD cs 1 0) (getD cs 2 0) (getD cs 3 0) (more 0 (omega arith)) (more 1 (omega arith)) (more 2 (omega arith)) (more 3 (omega arith)) in
+      let v₈ = four-steps (value 2 0 (take 4 cs)) (value 2 0 (take 5 cs)) (value 2 0 (take 6 cs)) (value 2 0 (take 7 cs)) (value 2 0 (take 8 cs))
+      (getD cs 4 0) (getD cs 5 0) (getD cs 6 0) (getD cs 7 0) (more 4 (omega arith)) (more 5 (omega arith)) (more 6 (omega arith)) (more 7 (omega arith)) in
+      let v₁₂ = four-steps (value 2 0 (take 8 cs)) (value 2 0 (take 9 cs)) (value 2 0 (take 10 cs)) (value 2 0 (take 11 cs)) (value 2 0 (take 12 cs))
+      (getD cs 8 0) (getD cs 9 0) (getD cs 10 0) (getD cs 11 0) (more 8 (omega arith)) (more 9 (omega arith)) (more 10 (omega arith))
+      (more 11 (omega arith)) in
+      let v₁₅ = three-steps (value 2 0 (take 12 cs)) (value 2 0 (take 13 cs)) (value 2 0 (take 14 cs)) (value 2 0 (take 15 cs)) (getD cs 12 0) (getD cs 13 0)
+      (getD cs 14 0) (more 12 (omega arith)) (more 13 (omega arith)) (more 14 (omega arith)) in
       let z₀ = two-none cs in
-      joined (value 2 0 (take 4 cs)) (value 2 0 (take 8 cs)) (value 2 0 (take 12 cs)) (value 2 0 (take 15 cs)) x y z (w % 64) (v₄ ∙ rw (z₀, fx) (omega arith)) (v₈ ∙ rw fy) (v₁₂ ∙ rw fz) (v₁₅ ∙ rw r)
+      joined (value 2 0 (take 4 cs)) (value 2 0 (take 8 cs)) (value 2 0 (take 12 cs)) (value 2 0 (take 15 cs)) x y z (w % 64) (v₄ ∙ rw (z₀, fx) (omega arith))
+      (v₈ ∙ rw fy) (v₁₂ ∙ rw fz) (v₁₅ ∙ rw r)

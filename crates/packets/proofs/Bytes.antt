@@ -63,7 +63,8 @@ module _ (h : ℕ) (bytes : List ℕ) (from to : ℕ) (low : from ≤ to) (high 
       let n : length part ≡ 4 * to + h - (4 * from + h) = length-slice (4 * from + h) (4 * to + h) bytes high in
       let b : length (drop h bytes) ≡ length bytes - h = length-drop h bytes in
       let a : length (packetsOf part) ≡ to - from = length-packets part ∙ omega arith in
-      let c : length (slice from to (packetsOf (drop h bytes))) ≡ to - from = length-slice from to (packetsOf (drop h bytes)) (omega (arith, length-packets (drop h bytes))) in
+      let c : length (slice from to (packetsOf (drop h bytes))) ≡ to - from = length-slice from to (packetsOf (drop h bytes))
+      (omega (arith, length-packets (drop h bytes))) in
       ext-getD 0 (packetsOf part) (slice from to (packetsOf (drop h bytes))) (a ∙ sym c)
       (λ k l.
       let g : k < to - from = omega arith in

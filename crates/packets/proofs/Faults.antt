@@ -69,7 +69,8 @@ none-below z h =
     (λ e. ne-eqb z 0 (λ n. never (sym e ∙ rw n zero-below)) ∙ sym e)
 
 -- digits of z that are 0 just where those of p are below a limit
-same-below : (m p z : ℕ) → ((j : ℕ) → j < 6 → ltb (z / 2 ^ (5 * j) % 32) 1 ≡ ltb (p / 2 ^ (5 * j) % 32) m) → allBelow 1 (digits 5 6 z) ≡ allBelow m (digits 5 6 p)
+same-below : (m p z : ℕ) → ((j : ℕ) → j < 6 → ltb (z / 2 ^ (5 * j) % 32) 1 ≡ ltb (p / 2 ^ (5 * j) % 32) m) → allBelow 1 (digits 5 6 z) ≡ allBelow m
+    (digits 5 6 p)
 unfolding digits allBelow
 same-below m p z f =
     rw (f 5 (omega arith), f 4 (omega arith), f 3 (omega arith), f 2 (omega arith), f 1 (omega arith), f 0 (omega arith))
@@ -165,7 +166,8 @@ high-digit p j h =
 
 pub high-codes : (p : ℕ) → eqb (highBits 0x08421084 p) 0 ≡ allBelow 28 (digits 5 6 p)
 high-codes p =
-    none-below (highBits 0x08421084 p) (omega (arith, and-le-l (bitAnd p 0x08421084) (bitAnd (bitAnd (p / 2) 0x08421084) (bitAnd (p / 4) 0x08421084)), and-le-r p 0x08421084))
+    none-below (highBits 0x08421084 p) (omega
+    (arith, and-le-l (bitAnd p 0x08421084) (bitAnd (bitAnd (p / 2) 0x08421084) (bitAnd (p / 4) 0x08421084)), and-le-r p 0x08421084))
     ∙ same-below 28 p (highBits 0x08421084 p) (high-digit p)
 
 -- ---- the tests of a packet
@@ -189,7 +191,8 @@ not-one : (p : ℕ) → p < 2 ^ 32 → (p / 2147483648 % 2 ≡ 1 → ⊥) → p 
 not-one p h a x =
     bool-cases (eqb (p / 2147483648 % 2) 1)
     (λ e. absurd (a (eqb-true _ 1 e)))
-    (λ e. let z : p / 2147483648 % 2 ≡ 0 = omega arith in let k : p / 2147483648 < 2 = omega arith in let n : p / 2147483648 ≡ 0 = sym (mod-eq-of-lt k) ∙ z in let l : p < 2147483648 = omega arith in omega arith)
+    (λ e. let z : p / 2147483648 % 2 ≡ 0 = omega arith in let k : p / 2147483648 < 2 = omega arith in let n : p / 2147483648 ≡ 0 = sym (mod-eq-of-lt k)
+    ∙ z in let l : p < 2147483648 = omega arith in omega arith)
 
 top-nucleic : (p : ℕ) → p < 2 ^ 32 → eqb (p / 2147483648) 0 ≡ not (endsRun p)
 top-nucleic p h =

@@ -30,15 +30,15 @@ masked-low x m h =
 masked-rest : (x m : ℕ) → bitAnd x m / 256 ≡ bitAnd (x / 256) (m / 256)
 masked-rest x m = and-shr x m 8
 
-masked-bytes : (x : ℕ) → littleBytes 4 (bitAnd x 50529027) ≡ x % 4 ∷ x / 256 % 4 ∷ x / 65536 % 4 ∷ x / 16777216 % 4 ∷ []
+masked-bytes : (x : ℕ) → littleBytes 4 (bitAnd x 0x03030303) ≡ x % 4 ∷ x / 256 % 4 ∷ x / 65536 % 4 ∷ x / 16777216 % 4 ∷ []
 masked-bytes x =
     let a : x / 256 / 256 ≡ x / 65536 = omega arith in
     let b : x / 65536 / 256 ≡ x / 16777216 = omega arith in
     rw (
-      masked-rest x 50529027,
+      masked-rest x 0x03030303,
       masked-rest (x / 256) 197379,
       masked-rest (x / 256 / 256) 771,
-      masked-low x 50529027,
+      masked-low x 0x03030303,
       masked-low (x / 256) 197379,
       masked-low (x / 256 / 256) 771,
       masked-low (x / 256 / 256 / 256) 3,
@@ -49,20 +49,20 @@ masked-bytes x =
 -- the product moves each code of a byte to its byte of the number: every byte is tried
 moved : ℕ → Bool
 moved b =
-    let x = b * 4299165700 / 256 in
+    let x = b * 0x100401004 / 256 in
     eqb (x % 4) (b / 64 % 4) && (eqb (x / 256 % 4) (b / 16 % 4) && (eqb (x / 65536 % 4) (b / 4 % 4) && eqb (x / 16777216 % 4) (b / 1 % 4)))
 
 all-moved : every moved 256 ≡ true
 unfolding moved
 all-moved = refl
 
-pub four-codes : (b : ℕ) → b < 256 → littleBytes 4 (bitAnd (b * 4299165700 / 256) 50529027) ≡ digits 2 4 b
+pub four-codes : (b : ℕ) → b < 256 → littleBytes 4 (bitAnd (b * 0x100401004 / 256) 0x03030303) ≡ digits 2 4 b
 unfolding digits moved
 four-codes b h =
     let p = both-pass _ _ (every-at moved 256 b h all-moved) in
     let q = both-pass _ _ (p .1) in
     let r = both-pass _ _ (q .1) in
-    let x = b * 4299165700 / 256 in
+    let x = b * 0x100401004 / 256 in
     let e₀ : x % 4 ≡ b / 64 % 4 = eqb-true _ _ (p .0) in
     let e₁ : x / 256 % 4 ≡ b / 16 % 4 = eqb-true _ _ (q .0) in
     let e₂ : x / 65536 % 4 ≡ b / 4 % 4 = eqb-true _ _ (r .0) in

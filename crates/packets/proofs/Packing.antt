@@ -108,6 +108,12 @@ size-le a cs =
     (λ e. omega (arith, size-two a cs (length cs) e, two-long a cs e))
     (λ e. omega (arith, size-five a cs (length cs) e))
 
+pub size-most : (a : ℕ) (cs : List ℕ) → size a cs ≤ 15
+size-most a cs =
+    bool-cases (isTwoBit a cs)
+    (λ t. omega (arith, size-two a cs (length cs) t))
+    (λ f. omega (arith, size-five a cs (length cs) f))
+
 pub size-some : (a : ℕ) (cs : List ℕ) → 0 < length cs → 0 < size a cs
 size-some a cs h =
     bool-cases (isTwoBit a cs)
@@ -136,6 +142,19 @@ unfolding packetOf
 packet-five a cs left e = rw (size-five a cs left e, e, min-test left)
 
 -- ---- every packet is below 2^32
+
+-- more than fifteen left are as good as sixteen
+pub size-inner : (a : ℕ) (cs : List ℕ) (left : ℕ) → 15 < left → sizeOf a cs 16 ≡ sizeOf a cs left
+size-inner a cs left h =
+    bool-cases (isTwoBit a cs)
+    (λ t. size-two a cs 16 t ∙ sym (size-two a cs left t))
+    (λ f. let m : min 6 left ≡ 6 = omega arith in size-five a cs 16 f ∙ sym (size-five a cs left f ∙ m))
+
+pub packet-inner : (a : ℕ) (cs : List ℕ) (left : ℕ) → 15 < left → packetOf a cs 16 ≡ packetOf a cs left
+packet-inner a cs left h =
+    bool-cases (isTwoBit a cs)
+    (λ t. packet-two a cs 16 t ∙ sym (packet-two a cs left t ∙ rw (lt-leb left 15 h)))
+    (λ f. packet-five a cs 16 f ∙ sym (packet-five a cs left f ∙ rw (lt-leb left 6 (omega arith))))
 
 pub two-below : (cs : List ℕ) → plain 15 cs ≡ true → twoBitPart cs < 2 ^ 30
 two-below cs e =

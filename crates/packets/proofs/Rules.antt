@@ -96,7 +96,8 @@ first-none [] h e = let z : ⊥ = omega arith in absurd z
 first-none (d ∷ ds) h e = rw (eq-eqb d 31 e)
 
 -- a last packet without residues is the whole run
-formed-whole : (a : ℕ) (w : Bool) (ps : List ℕ) (k : ℕ) → formed a w ps ≡ true → k + 1 ≡ length ps → length (residues (getD ps k 0)) ≡ 0 → (w ≡ true) × (length ps ≡ 1)
+formed-whole : (a : ℕ) (w : Bool) (ps : List ℕ) (k : ℕ) → formed a w ps ≡ true → k + 1 ≡ length ps → length (residues (getD ps k 0)) ≡ 0 → (w ≡ true) ×
+    (length ps ≡ 1)
 unfolding formed
 formed-whole a w [] k e h n = never e
 formed-whole a true (p ∷ []) zero e h n = (refl, refl)
@@ -153,7 +154,8 @@ module _ (a : ℕ) (ps : List ℕ) (e : wellFormed a ps ≡ true) where
   amino-bit q k h =
       bool-cases (isFiveBit (getD ps k 0))
       (λ t. eqb-true (getD ps k 0 / 2 ^ 30 % 2) 1 t)
-      (λ t. never (sym (⊎-elim (λ l. final-nucleic (getD ps k 0) t a (well-final a ps e k l)) (λ l. inner-nucleic (getD ps k 0) t a (well-inner a ps e k l)) (place k h)) ∙ eq-eqb a 3 q))
+      (λ t. never (sym (⊎-elim (λ l. final-nucleic (getD ps k 0) t a (well-final a ps e k l)) (λ l. inner-nucleic (getD ps k 0) t a (well-inner a ps e k l))
+      (place k h)) ∙ eq-eqb a 3 q))
 
   -- A well-formed run keeps the rules.
   pub formed-rules : WellFormed a ps
@@ -177,7 +179,8 @@ module _ (a : ℕ) (ps : List ℕ) (e : wellFormed a ps ≡ true) where
     noneWhole = λ k h b q.
         ⊎-elim
         (λ n. formed-whole a true ps k (sym (formed-well a ps) ∙ e) n
-        (ap length (residues-five (getD ps k 0) (five k b)) ∙ first-none (digits 5 6 (getD ps k 0)) (rw (six (getD ps k 0)) (omega arith)) (sym (code k 0 (omega arith)) ∙ q)) .1)
+        (ap length (residues-five (getD ps k 0) (five k b)) ∙ first-none (digits 5 6 (getD ps k 0)) (rw (six (getD ps k 0)) (omega arith))
+        (sym (code k 0 (omega arith)) ∙ q)) .1)
         (λ n. absurd (not-fill k 0 n b (omega arith) q))
         (place k h);
   }
@@ -200,7 +203,8 @@ module _ (a : ℕ) (ps : List ℕ) (r : WellFormed a ps) where
       let b : Bit 30 p = eqb-true (p / 2 ^ 30 % 2) 1 f in
       rw (inner-is, n, f) (below-all (codeLimit a) (digits 5 6 p) (λ j l.
       let i : j < 6 = rw (length-digits 5 6 p) at l in
-      rw (code-at p j i) (⊎-elim (λ x. x) (λ q. let z : ⊥ = omega (arith, r .fillLast k j (omega arith) b i q) in absurd z) (r .codesValid k j (omega arith) b i)))))
+      rw (code-at p j i) (⊎-elim (λ x. x) (λ q. let z : ⊥ = omega (arith, r .fillLast k j (omega arith) b i q) in absurd z)
+      (r .codesValid k j (omega arith) b i)))))
       (λ t. rw (inner-is, n, t) (two-nucleic k (omega arith) t))
 
   back-final : (k : ℕ) → k + 1 ≡ length ps → final a (getD ps k 0) ≡ true
@@ -224,7 +228,8 @@ module _ (a : ℕ) (ps : List ℕ) (r : WellFormed a ps) where
       (λ f.
       bool-cases (hasResidues p) (λ s. s)
       (λ s.
-      let z : length (beforeFill (digits 5 6 p)) ≡ 0 = sym (ap length (residues-five p f)) ∙ (let y : length (residues p) ≡ 0 = omega (arith, ltb-false 0 (length (residues p)) s) in y) in
+      let z : length (beforeFill (digits 5 6 p)) ≡ 0 = sym (ap length (residues-five p f)) ∙
+      (let y : length (residues p) ≡ 0 = omega (arith, ltb-false 0 (length (residues p)) s) in y) in
       let b : Bit 30 p = eqb-true (p / 2 ^ 30 % 2) 1 f in
       let q : fiveBitCode p 0 ≡ 31 = sym (code-at p 0 (omega arith)) ∙ none-first (digits 5 6 p) (rw (length-digits 5 6 p) (omega arith)) z in
       let y : ⊥ = omega (arith, r .noneWhole k (omega arith) b q) in absurd y))

@@ -72,10 +72,10 @@ fn four_at(next: &[u8], at: usize) -> u64
 // Four codes below 4, each in its byte, as one number of four digits: the product moves each to its digit.
 fn four_bases(codes: u64) -> u64
     requires { ⌜ codes < 2 ^ 32 ⌝ }
-    ensures value { λ r. ⌜ r ≡ codes * 1074791425 / 16777216 % 256 ⌝ }
+    ensures value { λ r. ⌜ r ≡ codes * 0x40100401 / 16777216 % 256 ⌝ }
     ensures small { λ r. ⌜ r < 256 ⌝ }
 {
-    codes * 1074791425 / 16777216 % 256
+    codes * 0x40100401 / 16777216 % 256
 }
 
 // Whether fifteen codes below 4 come next: no byte of four numbers of four codes, of which two share one, has a bit above its lowest two.
@@ -85,8 +85,8 @@ fn plain_next(next: &[u8]) -> bool
     if next.len() < 15 {
         return false;
     }
-    let first = four_at(next, 0) & 4244438268 | four_at(next, 4) & 4244438268;
-    let last = four_at(next, 8) & 4244438268 | four_at(next, 11) & 4244438268;
+    let first = four_at(next, 0) & 0xfcfcfcfc | four_at(next, 4) & 0xfcfcfcfc;
+    let last = four_at(next, 8) & 0xfcfcfcfc | four_at(next, 11) & 0xfcfcfcfc;
     first | last == 0
 }
 
@@ -129,7 +129,7 @@ fn five_whole(next: &[u8]) -> u64
     ensures value { λ r. ⌜ r ≡ fiveBitPart (now (next .entry)) ⌝ }
     ensures small { λ r. ⌜ r < 2 ^ 34 ⌝ }
 {
-    1073741824
+    0x40000000
         + wide(next[0]) * 33554432
         + wide(next[1]) * 1048576
         + wide(next[2]) * 32768
@@ -143,7 +143,7 @@ fn five_filled(next: &[u8]) -> u64
     ensures value { λ r. ⌜ r ≡ fiveBitPart (now (next .entry)) ⌝ }
     ensures small { λ r. ⌜ r < 2 ^ 34 ⌝ }
 {
-    1073741824
+    0x40000000
         + code_or_fill(next, 0) * 33554432
         + code_or_fill(next, 1) * 1048576
         + code_or_fill(next, 2) * 32768
@@ -169,7 +169,7 @@ fn end_bit(left: usize, taken: usize) -> u64
     ensures small { λ r. ⌜ r ≤ 2 ^ 31 ⌝ }
 {
     if left <= taken {
-        return 2147483648;
+        return 0x80000000;
     }
     0
 }

@@ -187,8 +187,8 @@ fn four_codes(byte: u32) -> u32
     ensures codes { λ r. ⌜ littleBytes 4 r ≡ digits 2 4 byte ⌝ }
 {
     // the product moves each code to its byte, and the mask takes away what stands beside it
-    let spread = byte as u64 * 4299165700 / 256;
-    (spread & 50529027) as u32
+    let spread = byte as u64 * 0x100401004 / 256;
+    (spread & 0x03030303) as u32
 }
 
 // Writes the fifteen 2-bit codes of a packet from a place on, four at once. The last four begin with one that was written.

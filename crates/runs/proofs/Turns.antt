@@ -14,7 +14,7 @@ use Rattle.laws.proofs.Digits.{below-drop}
 use Rattle.residues.specs.Alphabets.{codeLimit, validCodes}
 use Rattle.residues.proofs.Alphabets.{valid-below}
 use Rattle.packets.specs.Packing.{sizeOf, packetOf, size, packet, run}
-use Rattle.packets.proofs.Packing.{packet-below, run-last, run-more}
+use Rattle.packets.proofs.Packing.{size-inner, packet-inner, packet-below, run-last, run-more}
 
 -- what `encode` says of the codes from a place on
 module _ (a : ℕ) (codes : List ℕ) (at : ℕ) where
@@ -32,6 +32,14 @@ module _ (a : ℕ) (codes : List ℕ) (at : ℕ) where
       let w : validCodes a (drop at codes) ≡ true = below-drop (codeLimit a) at codes v in
       let l = packet-below a (drop at codes) (length (drop at codes)) (valid-below a (drop at codes) w) in
       e ∙ (rw (part-rest codes at, left-is) (mod-eq-of-lt l))
+
+  -- the same where more than fifteen are left, and `encode` is told of sixteen
+  module _ (h : 15 < length codes - at) where
+    pub size-told : (s : ℕ) → s ≡ sizeOf a Part 16 → s ≡ size a (drop at codes)
+    size-told s e = size-is s (e ∙ size-inner a Part (length codes - at) h)
+
+    pub packet-told : (p : ℕ) → validCodes a codes ≡ true → p ≡ packetOf a Part 16 % 2 ^ 32 → p ≡ packet a (drop at codes)
+    packet-told p v e = packet-is p v (e ∙ ap (λ (x : ℕ). x % 2 ^ 32) (packet-inner a Part (length codes - at) h))
 
   module _ (s : ℕ) (e : s ≡ size a (drop at codes)) where
     -- the packet takes all that is left

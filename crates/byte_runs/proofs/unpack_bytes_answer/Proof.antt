@@ -50,18 +50,23 @@ returns-4 c = let a = (c .before .before .before .before .before .before .before
     let bytes = now (a .bytes) in
     let ps = packetsOf bytes in
     let fits = read-fits (a .alphabet) bytes ((c .before .before .before .before .before .before .if1) .left) in
-    let s = unpack-bytes-as (a .alphabet) bytes (a .room) ((c .before .before .before .before .before .before .if1) .left) ((c .before .before .before .before .before .if2) .left) in
+    let s = unpack-bytes-as (a .alphabet) bytes (a .room) ((c .before .before .before .before .before .before .if1) .left)
+    ((c .before .before .before .before .before .if2) .left) in
     let k = sym ((c .before .before .before .before .is-alphabet) .ensures) ∙ not-false _ ((c .before .before .before .if3) .left) in
-    sym (s ∙ run-bad (a .alphabet) ps (a .room) k (read-not (a .alphabet) ps ((c .before .before .read-run) .result) ((c .before .before .read-run) .ensures ∙ fits) ((c .enum-told) .given .1)))
+    sym (s ∙ run-bad (a .alphabet) ps (a .room) k
+    (read-not (a .alphabet) ps ((c .before .before .read-run) .result) ((c .before .before .read-run) .ensures ∙ fits) ((c .enum-told) .given .1)))
 
 returns-5 : tie.Need-returns-5
 returns-5 c = let a = (c .before .before .before .before .before .before .before .before .before .before .args) in
     let bytes = now (a .bytes) in
     let ps = packetsOf bytes in
     let fits = read-fits (a .alphabet) bytes ((c .before .before .before .before .before .before .before .before .if1) .left) in
-    let s = unpack-bytes-as (a .alphabet) bytes (a .room) ((c .before .before .before .before .before .before .before .before .if1) .left) ((c .before .before .before .before .before .before .before .if2) .left) in
-    let k = sym ((c .before .before .before .before .before .before .is-alphabet) .ensures) ∙ not-false _ ((c .before .before .before .before .before .if3) .left) in
-    let f = read-formed (a .alphabet) ps ((c .before .before .before .before .read-run) .result) ((c .before .before .before .before .read-run) .ensures ∙ fits) ((c .before .before .total) .given .0 .0) ((c .before .before .total) .given .1) in
+    let s = unpack-bytes-as (a .alphabet) bytes (a .room) ((c .before .before .before .before .before .before .before .before .if1) .left)
+    ((c .before .before .before .before .before .before .before .if2) .left) in
+    let k = sym ((c .before .before .before .before .before .before .is-alphabet) .ensures) ∙ not-false _
+    ((c .before .before .before .before .before .if3) .left) in
+    let f = read-formed (a .alphabet) ps ((c .before .before .before .before .read-run) .result)
+    ((c .before .before .before .before .read-run) .ensures ∙ fits) ((c .before .before .total) .given .0 .0) ((c .before .before .total) .given .1) in
     let n = f .1 in
     sym (s ∙ run-full (a .alphabet) ps (a .room) k (f .0) (omega arith))
 
@@ -70,9 +75,12 @@ returns-6 c = let a = (c .before .before .before .before .before .before .before
     let bytes = now (a .bytes) in
     let ps = packetsOf bytes in
     let fits = read-fits (a .alphabet) bytes ((c .before .before .before .before .before .before .before .before .if1) .left) in
-    let s = unpack-bytes-as (a .alphabet) bytes (a .room) ((c .before .before .before .before .before .before .before .before .if1) .left) ((c .before .before .before .before .before .before .before .if2) .left) in
-    let k = sym ((c .before .before .before .before .before .before .is-alphabet) .ensures) ∙ not-false _ ((c .before .before .before .before .before .if3) .left) in
-    let f = read-formed (a .alphabet) ps ((c .before .before .before .before .read-run) .result) ((c .before .before .before .before .read-run) .ensures ∙ fits) ((c .before .before .total) .given .0 .0) ((c .before .before .total) .given .1) in
+    let s = unpack-bytes-as (a .alphabet) bytes (a .room) ((c .before .before .before .before .before .before .before .before .if1) .left)
+    ((c .before .before .before .before .before .before .before .if2) .left) in
+    let k = sym ((c .before .before .before .before .before .before .is-alphabet) .ensures) ∙ not-false _
+    ((c .before .before .before .before .before .if3) .left) in
+    let f = read-formed (a .alphabet) ps ((c .before .before .before .before .read-run) .result)
+    ((c .before .before .before .before .read-run) .ensures ∙ fits) ((c .before .before .total) .given .0 .0) ((c .before .before .total) .given .1) in
     let n = f .1 in
     ap (λ (l : ℕ). Unpacked (length bytes / 4) l) n
     ∙ (ap (λ (m : ℕ). Unpacked m (length (unpacked ps))) (sym (length-packets bytes))

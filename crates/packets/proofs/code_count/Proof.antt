@@ -11,10 +11,12 @@ is-five-bit-requires : tie.Need-is-five-bit-requires
 is-five-bit-requires c κs = search needs
 
 returns : tie.Need-returns
-returns c = sym (ap length (codes-five ((c .before .before .args) .packet) (sym ((c .before .is-five-bit) .ensures) ∙ (c .if1) .taken)) ∙ length-digits 5 6 ((c .before .before .args) .packet))
+returns c = sym (ap length (codes-five ((c .before .before .args) .packet) (sym ((c .before .is-five-bit) .ensures) ∙ (c .if1) .taken)) ∙ length-digits 5 6
+    ((c .before .before .args) .packet))
 
 returns-2 : tie.Need-returns-2
-returns-2 c = sym (ap length (codes-two ((c .before .before .args) .packet) (sym ((c .before .is-five-bit) .ensures) ∙ (c .if1) .left)) ∙ length-digits 2 15 ((c .before .before .args) .packet))
+returns-2 c = sym (ap length (codes-two ((c .before .before .args) .packet) (sym ((c .before .is-five-bit) .ensures) ∙ (c .if1) .left)) ∙ length-digits 2 15
+    ((c .before .before .args) .packet))
 
 pub code-count-spec : {M : Type 1} → statement M
 code-count-spec = tie.close (tie.spec is-five-bit-requires returns returns-2)

@@ -27,7 +27,8 @@ put-first-requires : tie.Need-put-first-requires
 put-first-requires c κs = let a = (c .before .before .before .before .before .before .before .args) in
     let p = a .packet in
     let out = now (a .out) in
-    let r : a .at + (c .before .before .before .count-before) .result ≤ length out = leb-true _ _ (sym ((c .before .before .has-room) .ensures) ∙ (c .before .if2) .taken) in
+    let r : a .at + (c .before .before .before .count-before) .result ≤ length out = leb-true _ _
+    (sym ((c .before .before .has-room) .ensures) ∙ (c .before .if2) .taken) in
     (omega (arith, (c .before .before .before .count-before) .ensures, before-le (digits 5 6 p), length-digits 5 6 p), r)
 
 same-length : tie.Need-same-length
@@ -37,16 +38,27 @@ returns : tie.Need-returns
 returns c = let a = (c .before .before .before .before .before .before .before .before .before .before .args) in
     let p = a .packet in
     let out = now (a .out) in
-    let r : a .at + (c .before .before .before .before .before .before .count-before) .result ≤ length out = leb-true _ _ (sym ((c .before .before .before .before .before .has-room) .ensures) ∙ (c .before .before .before .before .if2) .taken) in
-    let m : length (residues p) ≡ (c .before .before .before .before .before .before .count-before) .result = ap length (residues-five p (sym ((c .before .before .before .before .before .before .before .before .is-five-bit) .ensures) ∙ (c .before .before .before .before .before .before .before .if1) .taken)) ∙ sym ((c .before .before .before .before .before .before .count-before) .ensures) in
-    let e : residues p ≡ take ((c .before .before .before .before .before .before .count-before) .result) (digits 5 6 p) = residues-five p (sym ((c .before .before .before .before .before .before .before .before .is-five-bit) .ensures) ∙ (c .before .before .before .before .before .before .before .if1) .taken) ∙ rw ((c .before .before .before .before .before .before .count-before) .ensures) (sym (before-prefix (digits 5 6 p))) in
-    (c .before .before .put-first) .ensures ∙ sym (residues-put p (a .at) out (take ((c .before .before .before .before .before .before .count-before) .result) (digits 5 6 p)) e (omega (arith, ap length e)))
+    let r : a .at + (c .before .before .before .before .before .before .count-before) .result ≤ length out = leb-true _ _
+    (sym ((c .before .before .before .before .before .has-room) .ensures) ∙ (c .before .before .before .before .if2) .taken) in
+    let m : length (residues p) ≡ (c .before .before .before .before .before .before .count-before) .result = ap length
+    (residues-five p (sym ((c .before .before .before .before .before .before .before .before .is-five-bit) .ensures) ∙
+    (c .before .before .before .before .before .before .before .if1) .taken)) ∙ sym
+    ((c .before .before .before .before .before .before .count-before) .ensures) in
+    let e : residues p ≡ take ((c .before .before .before .before .before .before .count-before) .result) (digits 5 6 p) = residues-five p
+    (sym ((c .before .before .before .before .before .before .before .before .is-five-bit) .ensures) ∙
+    (c .before .before .before .before .before .before .before .if1) .taken) ∙ rw ((c .before .before .before .before .before .before .count-before) .ensures)
+    (sym (before-prefix (digits 5 6 p))) in
+    (c .before .before .put-first) .ensures ∙ sym
+    (residues-put p (a .at) out (take ((c .before .before .before .before .before .before .count-before) .result) (digits 5 6 p)) e
+    (omega (arith, ap length e)))
 
 returns-2 : tie.Need-returns-2
 returns-2 c = let a = (c .before .before .before .before .before .before .args) in
     let p = a .packet in
     let out = now (a .out) in
-    let m : length (residues p) ≡ (c .before .before .count-before) .result = ap length (residues-five p (sym ((c .before .before .before .before .is-five-bit) .ensures) ∙ (c .before .before .before .if1) .taken)) ∙ sym ((c .before .before .count-before) .ensures) in
+    let m : length (residues p) ≡ (c .before .before .count-before) .result = ap length
+    (residues-five p (sym ((c .before .before .before .before .is-five-bit) .ensures) ∙ (c .before .before .before .if1) .taken)) ∙ sym
+    ((c .before .before .count-before) .ensures) in
     sym (residues-lost p (a .at) out (ap (λ (n : ℕ). leb (a .at + n) (length out)) (m) ∙ (sym ((c .before .has-room) .ensures) ∙ (c .if2) .left)))
 
 has-room-requires-2 : tie.Need-has-room-requires-2
@@ -66,15 +78,19 @@ returns-3 : tie.Need-returns-3
 returns-3 c = let a = (c .before .before .before .before .before .before .before .before .before .args) in
     let p = a .packet in
     let out = now (a .out) in
-    let r : a .at + 15 ≤ length out = leb-true _ _ (sym ((c .before .before .before .before .before .has-room2) .ensures) ∙ (c .before .before .before .before .if3) .taken) in
-    let e = residues-two p (sym ((c .before .before .before .before .before .before .before .is-five-bit) .ensures) ∙ (c .before .before .before .before .before .before .if1) .left) in
+    let r : a .at + 15 ≤ length out = leb-true _ _
+    (sym ((c .before .before .before .before .before .has-room2) .ensures) ∙ (c .before .before .before .before .if3) .taken) in
+    let e = residues-two p (sym ((c .before .before .before .before .before .before .before .is-five-bit) .ensures) ∙
+    (c .before .before .before .before .before .before .if1) .left) in
     (c .before .before .put-two) .ensures ∙ sym (residues-put p (a .at) out (digits 2 15 p) e (omega (arith, length-digits 2 15 p)))
 
 returns-4 : tie.Need-returns-4
 returns-4 c = let a = (c .before .before .before .before .before .args) in
     let p = a .packet in
     let out = now (a .out) in
-    sym (residues-lost p (a .at) out (ap (λ (n : ℕ). leb (a .at + n) (length out)) (ap length (residues-two p (sym ((c .before .before .before .is-five-bit) .ensures) ∙ (c .before .before .if1) .left)) ∙ length-digits 2 15 p) ∙ (sym ((c .before .has-room2) .ensures) ∙ (c .if3) .left)))
+    sym (residues-lost p (a .at) out (ap (λ (n : ℕ). leb (a .at + n) (length out))
+    (ap length (residues-two p (sym ((c .before .before .before .is-five-bit) .ensures) ∙ (c .before .before .if1) .left)) ∙ length-digits 2 15 p) ∙
+    (sym ((c .before .has-room2) .ensures) ∙ (c .if3) .left)))
 
 pub decode-spec : {M : Type 1} → statement M
 decode-spec =

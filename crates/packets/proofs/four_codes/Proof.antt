@@ -11,7 +11,7 @@ mul-spread : tie.Need-mul-spread
 mul-spread c = search needs
 
 cast-result : tie.Need-cast-result
-cast-result c = omega (arith, and-le-r ((c .args) .byte * 4299165700 / 256) 50529027)
+cast-result c = omega (arith, and-le-r ((c .args) .byte * 0x100401004 / 256) 0x03030303)
 
 returns : tie.Need-returns
 returns c = four-codes ((c .args) .byte) ((c .pre))

@@ -25,7 +25,12 @@ residue-count-requires c κs = search needs
 returns-3 : tie.Need-returns-3
 returns-3 c =
     let a = (c .before .before .before .before .args) in
-    rw (formed-one (a .alphabet) (a .alone) (a .packet), sym ((c .before .before .before .is-final) .ensures) ∙ not-false _ ((c .before .before .if1) .left), (c .before .if2) .left, (c .residue-count) .ensures)
+    rw (
+      formed-one (a .alphabet) (a .alone) (a .packet),
+      sym ((c .before .before .before .is-final) .ensures) ∙ not-false _ ((c .before .before .if1) .left),
+      (c .before .if2) .left,
+      (c .residue-count) .ensures,
+    )
 
 pub is-last-spec : {M : Type 1} → statement M
 is-last-spec = tie.close (tie.spec is-final-requires returns returns-2 residue-count-requires returns-3)

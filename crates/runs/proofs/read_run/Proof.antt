@@ -60,7 +60,12 @@ add-t13 c =
     let t = (c .before .before .before .is-last) in
     let m = (c .before .count-codes) in
     let k = (c .residue-count) in
-    omega (arith, (c .before .before .before .before .before .before .before .before .before .pre), found-most (a .alphabet) ps n (omega arith) e _ refl (t .result) (t .ensures) (m .result) (k .result) (m .ensures) (k .ensures))
+    omega (
+      arith,
+      (c .before .before .before .before .before .before .before .before .before .pre),
+      found-most (a .alphabet) ps n (omega arith) e _ refl
+          (t .result) (t .ensures) (m .result) (k .result) (m .ensures) (k .ensures),
+    )
 
 returns-4 : tie.Need-returns-4
 returns-4 c =
@@ -72,7 +77,8 @@ returns-4 c =
     let t = (c .before .before .before .is-last) in
     let m = (c .before .count-codes) in
     let k = (c .residue-count) in
-    found-run (a .alphabet) ps n (omega arith) e _ refl (t .result) (t .ensures) (m .result) (k .result) (m .ensures) (k .ensures) (not-false _ ((c .before .before .if3) .left))
+    found-run (a .alphabet) ps n (omega arith) e _ refl (t .result) (t .ensures) (m .result) (k .result) (m .ensures) (k .ensures)
+    (not-false _ ((c .before .before .if3) .left))
 
 pub read-run-spec : {M : Type 1} → statement M
 read-run-spec =

@@ -47,7 +47,8 @@ returns-4 : tie.Need-returns-4
 returns-4 c = let a = (c .before .before .before .before .before .before .before .before .before .args) in
     let ps = now (a .packets) in
     let s = unpack-as (a .alphabet) ps (a .room) ((c .before .before .before .before .before .before .before .if1) .left) in
-    let k = sym ((c .before .before .before .before .before .before .is-alphabet) .ensures) ∙ not-false _ ((c .before .before .before .before .before .if2) .left) in
+    let k = sym ((c .before .before .before .before .before .before .is-alphabet) .ensures) ∙ not-false _
+    ((c .before .before .before .before .before .if2) .left) in
     let r = (c .before .before .before .before .read-run) in
     let f = read-formed (a .alphabet) ps (r .result) (r .ensures) ((c .before .before .total) .given .0 .0) ((c .before .before .total) .given .1) in
     let n = f .1 in
@@ -57,7 +58,8 @@ returns-5 : tie.Need-returns-5
 returns-5 c = let a = (c .before .before .before .before .before .before .before .before .before .args) in
     let ps = now (a .packets) in
     let s = unpack-as (a .alphabet) ps (a .room) ((c .before .before .before .before .before .before .before .if1) .left) in
-    let k = sym ((c .before .before .before .before .before .before .is-alphabet) .ensures) ∙ not-false _ ((c .before .before .before .before .before .if2) .left) in
+    let k = sym ((c .before .before .before .before .before .before .is-alphabet) .ensures) ∙ not-false _
+    ((c .before .before .before .before .before .if2) .left) in
     let r = (c .before .before .before .before .read-run) in
     let f = read-formed (a .alphabet) ps (r .result) (r .ensures) ((c .before .before .total) .given .0 .0) ((c .before .before .total) .given .1) in
     let n = f .1 in

@@ -35,7 +35,11 @@ add-wide-2 : tie.Need-add-wide-2
 add-wide-2 c = omega (arith, (c .before .before .before .before .byte-of) .ensures, (c .before .before .before .before .before .before .pre))
 
 shared-slice-read-wide-3 : tie.Need-shared-slice-read-wide-3
-shared-slice-read-wide-3 c = omega (arith, (c .before .before .before .before .before .byte-of) .ensures, (c .before .before .before .before .before .before .before .pre))
+shared-slice-read-wide-3 c = omega (
+  arith,
+  (c .before .before .before .before .before .byte-of) .ensures,
+  (c .before .before .before .before .before .before .before .pre),
+)
 
 wide-requires-3 : tie.Need-wide-requires-3
 wide-requires-3 c κs = search needs
@@ -47,10 +51,18 @@ add-result-2 : tie.Need-add-result-2
 add-result-2 c = search needs
 
 add-wide-3 : tie.Need-add-wide-3
-add-wide-3 c = omega (arith, (c .before .before .before .before .before .before .byte-of) .ensures, (c .before .before .before .before .before .before .before .before .pre))
+add-wide-3 c = omega (
+  arith,
+  (c .before .before .before .before .before .before .byte-of) .ensures,
+  (c .before .before .before .before .before .before .before .before .pre),
+)
 
 shared-slice-read-wide-4 : tie.Need-shared-slice-read-wide-4
-shared-slice-read-wide-4 c = omega (arith, (c .before .before .before .before .before .before .before .byte-of) .ensures, (c .before .before .before .before .before .before .before .before .before .pre))
+shared-slice-read-wide-4 c = omega (
+  arith,
+  (c .before .before .before .before .before .before .before .byte-of) .ensures,
+  (c .before .before .before .before .before .before .before .before .before .pre),
+)
 
 wide-requires-4 : tie.Need-wide-requires-4
 wide-requires-4 c κs = search needs
@@ -63,8 +75,13 @@ add-result-3 c = search needs
 
 returns : tie.Need-returns
 returns c = let a = (c .before .before .before .before .before .before .before .before .before .before .args) in
-    packet-sum (now (a .bytes)) (a .place .0) ((c .before .before .before .before .before .before .before .before .byte-of) .result .0) ((c .before .before .before .before .before .before .wide) .result) ((c .before .before .before .before .wide2) .result) ((c .before .before .wide3) .result) ((c .wide4) .result) (c .before .before .before .before .before .before .before .before .before .before .pre) (omega arith)
-    ((c .before .before .before .before .before .before .before .before .byte-of) .ensures) ((c .before .before .before .before .before .before .wide) .ensures .0) ((c .before .before .before .before .wide2) .ensures .0) ((c .before .before .wide3) .ensures .0) ((c .wide4) .ensures .0)
+    packet-sum (now (a .bytes)) (a .place .0) ((c .before .before .before .before .before .before .before .before .byte-of) .result .0)
+    ((c .before .before .before .before .before .before .wide) .result) ((c .before .before .before .before .wide2) .result)
+    ((c .before .before .wide3) .result) ((c .wide4) .result) (c .before .before .before .before .before .before .before .before .before .before .pre)
+    (omega arith)
+    ((c .before .before .before .before .before .before .before .before .byte-of) .ensures)
+    ((c .before .before .before .before .before .before .wide) .ensures .0) ((c .before .before .before .before .wide2) .ensures .0)
+    ((c .before .before .wide3) .ensures .0) ((c .wide4) .ensures .0)
 
 pub packet-at-spec : {M : Type 1} → statement M
 packet-at-spec =

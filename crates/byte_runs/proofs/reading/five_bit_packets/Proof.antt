@@ -25,7 +25,13 @@ packet-at-requires c κs = omega (arith, (c .before .before .before .pre) .0)
 add-fives : tie.Need-add-fives Inv-loop μ-loop
 add-fives c =
     let l = (c .before .before .loop) in
-    omega (arith, (c .before .before .before .before .pre) .1, l .inv .1, codes-fives (packetsOf (now ((c .before .before .before .before .args) .bytes))) (l .i))
+    omega (
+      arith,
+      (c .before .before .before .before .pre) .1,
+      l .inv .1,
+      codes-fives (packetsOf (now ((c .before .before .before .before .args) .bytes)))
+          (l .i),
+    )
 
 add-i : tie.Need-add-i Inv-loop μ-loop
 add-i c = search needs

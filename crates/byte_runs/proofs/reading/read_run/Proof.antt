@@ -80,7 +80,7 @@ add-t14 c =
     let m = (c .before .inner-codes) in
     let k = (c .residue-count) in
     let most = found-most (a .alphabet) (packetsOf bytes) n (omega arith) e (p .result) (p .ensures) (t .result) (t .ensures)
-        (m .result) (k .result) (m .ensures) (k .ensures) in
+    (m .result) (k .result) (m .ensures) (k .ensures) in
     omega arith
 
 returns-5 : tie.Need-returns-5

@@ -28,7 +28,8 @@ returns c =
     let a = (c .before .before .before .before .before .before .before .before .before .args) in
     (c .before .before .store2) .ensures
     ∙ (ap (λ (l : List ℕ). writtenAt (a .at + 4) (littleBytes 2 (a .two)) l) ((c .before .before .before .before .before .before .store) .ensures)
-    ∙ written-twice (a .at) (littleBytes 4 (a .four)) (littleBytes 2 (a .two)) (now (a .out)) (omega (arith, (c .before .before .before .before .before .before .before .before .before .pre))))
+    ∙ written-twice (a .at) (littleBytes 4 (a .four)) (littleBytes 2 (a .two)) (now (a .out))
+    (omega (arith, (c .before .before .before .before .before .before .before .before .before .pre))))
 
 pub put-six-spec : {M : Type 1} → statement M
 put-six-spec = tie.close (tie.spec store-requires add-store store-requires-2 same-length returns)

@@ -62,8 +62,14 @@ loop-less c = search needs
 loop-again : tie.Need-loop-again Inv-loop μ-loop Inv-loop2 μ-loop2
 loop-again c =
     let a = (c .before .before .before .before .before .before .before .args) in
-    let l = (c .before .before .before .before .loop) in
-    (omega arith, simp length-set (l .inv .1), simp length-set (l .inv .2), split-more (packetsOf (now (a .bytes))) (a .from) (l .i) (l .fours) (l .twos) ((c .before .before .packet-at) .result) ((c .before .first-four) .result) ((c .last-two) .result) (l .inv .3) (omega arith) (omega arith) ((c .before .before .packet-at) .ensures) ((c .before .first-four) .ensures) ((c .last-two) .ensures))
+    let l = (c .before .before .before .before .loop) in (
+      omega arith,
+      simp length-set (l .inv .1),
+      simp length-set (l .inv .2),
+      split-more (packetsOf (now (a .bytes))) (a .from) (l .i) (l .fours) (l .twos)
+          ((c .before .before .packet-at) .result) ((c .before .first-four) .result) ((c .last-two) .result) (l .inv .3) (omega arith) (omega arith)
+          ((c .before .before .packet-at) .ensures) ((c .before .first-four) .ensures) ((c .last-two) .ensures),
+    )
 
 loop2-holds : tie.Need-loop2-holds Inv-loop μ-loop Inv-loop2 μ-loop2
 loop2-holds c =
@@ -106,7 +112,9 @@ loop2-again c =
       omega arith,
       (c .before .out) .given ∙ m .inv .1,
       (c .before .before .put-six) .ensures
-          ∙ six-next ps (a .from) (6 * a .from) (m .j) (6 * (a .from + m .j)) (now (a .out)) (m .out) _ (m .inv .2) (omega (arith, (c .before .before .before .before .before .before .before .before .before .before .pre) .1)) (omega arith) (l .inv .3 (m .j) (omega arith)),
+          ∙ six-next ps (a .from) (6 * a .from) (m .j) (6 * (a .from + m .j)) (now (a .out)) (m .out) _ (m .inv .2)
+          (omega (arith, (c .before .before .before .before .before .before .before .before .before .before .pre) .1)) (omega arith)
+          (l .inv .3 (m .j) (omega arith)),
     )
 
 same-length : tie.Need-same-length Inv-loop μ-loop Inv-loop2 μ-loop2

@@ -31,8 +31,15 @@ write-sixes-requires c κs =
     let bytes = now (a .bytes) in
     let ps = packetsOf bytes in
     let n = length-packets bytes in
-    let z = well-some 3 ps ((c .before .before .before .pre) .0) in
-    (omega arith, omega (arith, (c .before .before .before .pre) .1, amino-length ps ((c .before .before .before .pre) .0) (length bytes / 4 - 1) (omega arith)))
+    let z = well-some 3 ps ((c .before .before .before .pre) .0) in (
+      omega arith,
+      omega (
+        arith,
+        (c .before .before .before .pre) .1,
+        amino-length ps ((c .before .before .before .pre) .0) (length bytes / 4 - 1)
+            (omega arith),
+      ),
+    )
 
 packet-at-requires : tie.Need-packet-at-requires
 packet-at-requires c κs =
@@ -67,8 +74,14 @@ returns c =
     let l = amino-length ps ((c .before .before .before .before .before .before .before .before .before .before .before .pre) .0) last (omega arith) in
     (c .before .before .decode) .ensures
     ∙ (ap (λ (x : ℕ). residuesPut x (6 * last) mid) (p .ensures)
-    ∙ (residues-put r (6 * last) mid (residues r) refl (omega (arith, (c .before .before .before .before .before .before .before .before .before .before .before .pre) .1, (c .before .before .before .before .before .before .out) .given))
-    ∙ amino-written ps ((c .before .before .before .before .before .before .before .before .before .before .before .pre) .0) last (6 * last) (now (a .out)) mid (omega arith) refl ((c .before .before .before .before .before .before .before .before .before .before .before .pre) .1) (w .ensures)))
+    ∙ (residues-put r (6 * last) mid (residues r) refl
+    (omega (
+      arith,
+      (c .before .before .before .before .before .before .before .before .before .before .before .pre) .1,
+      (c .before .before .before .before .before .before .out) .given,
+    ))
+    ∙ amino-written ps ((c .before .before .before .before .before .before .before .before .before .before .before .pre) .0) last (6 * last)
+    (now (a .out)) mid (omega arith) refl ((c .before .before .before .before .before .before .before .before .before .before .before .pre) .1) (w .ensures)))
 
 pub write-amino-residues-spec : {M : Type 1} → statement M
 write-amino-residues-spec =

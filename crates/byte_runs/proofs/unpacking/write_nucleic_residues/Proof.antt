@@ -68,9 +68,11 @@ add-at c = let a = (c .before .before .before .before .before .before .before .b
     let l = (c .before .before .before .before .before .before .before .loop) in
     let p = getD ps (l .i) 0 in
     let rest = unpacked (drop (l .i + 1) ps) in
-    let f : drop (l .at) U ≡ codesIn p ++ rest = l .inv .5 ∙ inner-from a ps ((c .before .before .before .before .before .before .before .before .before .before .pre) .0) (l .i) (omega arith) in
+    let f : drop (l .at) U ≡ codesIn p ++ rest = l .inv .5 ∙ inner-from a ps
+    ((c .before .before .before .before .before .before .before .before .before .before .pre) .0) (l .i) (omega arith) in
     let w = part-within d U (l .at) (l .out) (l .inv .4) (l .inv .3) (codesIn p) rest f in
-    let k : (c .code-count) .result ≡ length (codesIn p) = (c .code-count) .ensures ∙ ap (λ (x : ℕ). length (codesIn x)) ((c .before .before .before .before .before .packet-at) .ensures) in
+    let k : (c .code-count) .result ≡ length (codesIn p) = (c .code-count) .ensures ∙ ap (λ (x : ℕ). length (codesIn x))
+    ((c .before .before .before .before .before .packet-at) .ensures) in
     omega (arith, (c .before .before .before .before .before .before .before .before .before .before .pre) .1)
 
 add-i : tie.Need-add-i Inv-loop μ-loop
@@ -88,12 +90,23 @@ loop-again c = let a = (c .before .before .before .before .before .before .befor
     let l = (c .before .before .before .before .before .before .before .loop) in
     let p = getD ps (l .i) 0 in
     let rest = unpacked (drop (l .i + 1) ps) in
-    let f : drop (l .at) U ≡ codesIn p ++ rest = l .inv .5 ∙ inner-from a ps ((c .before .before .before .before .before .before .before .before .before .before .pre) .0) (l .i) (omega arith) in
+    let f : drop (l .at) U ≡ codesIn p ++ rest = l .inv .5 ∙ inner-from a ps
+    ((c .before .before .before .before .before .before .before .before .before .before .pre) .0) (l .i) (omega arith) in
     let w = part-within d U (l .at) (l .out) (l .inv .4) (l .inv .3) (codesIn p) rest f in
-    let k : (c .code-count) .result ≡ length (codesIn p) = (c .code-count) .ensures ∙ ap (λ (x : ℕ). length (codesIn x)) ((c .before .before .before .before .before .packet-at) .ensures) in
-    let o = (c .before .before .before .decode-codes) .ensures ∙ (ap (λ (x : ℕ). codesPut x (l .at) (l .out)) ((c .before .before .before .before .before .packet-at) .ensures) ∙ codes-put p (l .at) (l .out) (codesIn p) refl (omega (arith, (c .before .before .before .before .before .before .before .before .before .before .pre) .1))) in
-    let g = part-goes d U (l .at) (l .out) (l .inv .4) (l .inv .3) (codesIn p) rest f in
-    (omega arith, l .inv .1, (c .before .before .out) .given ∙ l .inv .2, omega arith, rw k (o ∙ g), rw k (part-behind d U (l .at) (l .out) (l .inv .4) (l .inv .3) (codesIn p) rest f))
+    let k : (c .code-count) .result ≡ length (codesIn p) = (c .code-count) .ensures ∙ ap (λ (x : ℕ). length (codesIn x))
+    ((c .before .before .before .before .before .packet-at) .ensures) in
+    let o = (c .before .before .before .decode-codes) .ensures ∙
+    (ap (λ (x : ℕ). codesPut x (l .at) (l .out)) ((c .before .before .before .before .before .packet-at) .ensures) ∙ codes-put p (l .at) (l .out)
+    (codesIn p) refl (omega (arith, (c .before .before .before .before .before .before .before .before .before .before .pre) .1))) in
+    let g = part-goes d U (l .at) (l .out) (l .inv .4) (l .inv .3) (codesIn p) rest f in (
+      omega arith,
+      l .inv .1,
+      (c .before .before .out) .given ∙ l .inv .2,
+      omega arith,
+      rw k (o ∙ g),
+      rw k
+          (part-behind d U (l .at) (l .out) (l .inv .4) (l .inv .3) (codesIn p) rest f),
+    )
 
 packet-at-requires-2 : tie.Need-packet-at-requires-2 Inv-loop μ-loop
 packet-at-requires-2 c κs = let a = (c .before .before .before .before .args) .alphabet in
@@ -124,7 +137,8 @@ returns c = let a = (c .before .before .before .before .before .before .before .
     let rest = unpacked (drop (last + 1) ps) in
     let f : drop (l .at) U ≡ residues p ++ rest = l .inv .5 ∙ rw n (q .0) in
     let w = part-within d U (l .at) (l .out) (l .inv .4) (l .inv .3) (residues p) rest f in
-    (c .before .before .decode) .ensures ∙ (ap (λ (x : ℕ). residuesPut x (l .at) (l .out)) ((c .before .before .before .before .packet-at2) .ensures) ∙ residues-put p (l .at) (l .out) (residues p) refl (omega (arith, (c .before .before .before .before .before .before .before .before .before .pre) .1)))
+    (c .before .before .decode) .ensures ∙ (ap (λ (x : ℕ). residuesPut x (l .at) (l .out)) ((c .before .before .before .before .packet-at2) .ensures)
+    ∙ residues-put p (l .at) (l .out) (residues p) refl (omega (arith, (c .before .before .before .before .before .before .before .before .before .pre) .1)))
     ∙ part-ends d U (l .at) (l .out) (l .inv .4) (l .inv .3) (residues p) rest f (q .1)
 
 pub write-nucleic-residues-spec : {M : Type 1} → statement M

@@ -4,7 +4,8 @@ use Rattle.byte_runs.proofs.unpacking.write_residues.Statement.{stateme
 use Rattle.byte_runs.proofs.unpacking.write_residues.Tie as tie
 
 write-amino-residues-requires : tie.Need-write-amino-residues-requires
-write-amino-residues-requires c κs = let t = (c .before .if1) .taken in (rw t at ((c .before .before .before .before .pre) .0), (c .before .before .before .before .pre) .1)
+write-amino-residues-requires c κs = let t = (c .before .if1) .taken in
+    (rw t at ((c .before .before .before .before .pre) .0), (c .before .before .before .before .pre) .1)
 
 same-length : tie.Need-same-length
 same-length c = search needs

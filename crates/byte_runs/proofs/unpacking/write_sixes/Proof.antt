@@ -20,7 +20,8 @@ abbrev μ-loop : tie.MeasureT-loop
 μ-loop bytes count out₀ i₀ out i = count - i
 
 abbrev Inv-loop2 : tie.InvT-loop2
-Inv-loop2 bytes count out₀ i₀ out i = (i₀ ≤ i) × (i ≤ count) × (length out ≡ length out₀) × (out ≡ writtenAt (6 * i₀) (sixCodes (packetsOf bytes) i₀ (i - i₀)) out₀)
+Inv-loop2 bytes count out₀ i₀ out i = (i₀ ≤ i) × (i ≤ count) × (length out ≡ length out₀) ×
+    (out ≡ writtenAt (6 * i₀) (sixCodes (packetsOf bytes) i₀ (i - i₀)) out₀)
 
 abbrev μ-loop2 : tie.MeasureT-loop2
 μ-loop2 bytes count out₀ i₀ out i = count - i
@@ -32,7 +33,11 @@ sub-loop : tie.Need-sub-loop Inv-loop μ-loop Inv-loop2 μ-loop2
 sub-loop c = search needs
 
 put-sixteen-requires : tie.Need-put-sixteen-requires Inv-loop μ-loop Inv-loop2 μ-loop2
-put-sixteen-requires c κs = (omega (arith, (c .before .before .before .before .before .pre) .0), omega (arith, (c .before .before .before .before .before .pre) .1, (c .before .before .loop) .inv .1))
+put-sixteen-requires c κs = (
+  omega (arith, (c .before .before .before .before .before .pre) .0),
+  omega
+      (arith, (c .before .before .before .before .before .pre) .1, (c .before .before .loop) .inv .1),
+)
 
 add-i : tie.Need-add-i Inv-loop μ-loop Inv-loop2 μ-loop2
 add-i c = search needs
@@ -46,7 +51,8 @@ loop-again c =
     let l = (c .before .before .before .before .before .loop) in (
       omega arith,
       (c .before .out) .given ∙ l .inv .1,
-      (c .before .before .put-sixteen) .ensures ∙ six-block (packetsOf (now (a .bytes))) (l .i) 16 (now (a .out)) (l .out) (l .inv .2) (omega (arith, (c .before .before .before .before .before .before .before .before .pre) .1)),
+      (c .before .before .put-sixteen) .ensures ∙ six-block (packetsOf (now (a .bytes))) (l .i) 16 (now (a .out)) (l .out) (l .inv .2)
+          (omega (arith, (c .before .before .before .before .before .before .before .before .pre) .1)),
     )
 
 loop2-holds : tie.Need-loop2-holds Inv-loop μ-loop Inv-loop2 μ-loop2
@@ -67,7 +73,12 @@ mul-put-six : tie.Need-mul-put-six Inv-loop μ-loop Inv-loop2 μ-loop2
 mul-put-six c = omega (arith, (c .before .before .before .before .before .before .before .before .before .before .pre) .1)
 
 put-six-requires : tie.Need-put-six-requires Inv-loop μ-loop Inv-loop2 μ-loop2
-put-six-requires c κs = omega (arith, (c .before .before .before .before .before .before .before .before .before .before .pre) .1, (c .before .before .before .before .before .before .before .loop) .inv .1, (c .before .before .before .before .before .loop2) .inv .2)
+put-six-requires c κs = omega (
+  arith,
+  (c .before .before .before .before .before .before .before .before .before .before .pre) .1,
+  (c .before .before .before .before .before .before .before .loop) .inv .1,
+  (c .before .before .before .before .before .loop2) .inv .2,
+)
 
 add-i-2 : tie.Need-add-i-2 Inv-loop μ-loop Inv-loop2 μ-loop2
 add-i-2 c = search needs
@@ -81,12 +92,15 @@ loop2-again c =
     let l = (c .before .before .before .before .before .before .before .before .before .before .loop) in
     let m = (c .before .before .before .before .before .before .before .before .loop2) in
     let p = (c .before .before .before .before .before .before .packet-at) in
-    let s = six-parts (p .result) ((c .before .before .before .before .before .first-four) .result) ((c .before .before .before .before .last-two) .result) ((c .before .before .before .before .before .first-four) .ensures) ((c .before .before .before .before .last-two) .ensures) ∙ ap (digits 5 6) (p .ensures) in (
+    let s = six-parts (p .result) ((c .before .before .before .before .before .first-four) .result) ((c .before .before .before .before .last-two) .result)
+    ((c .before .before .before .before .before .first-four) .ensures) ((c .before .before .before .before .last-two) .ensures) ∙ ap (digits 5 6)
+    (p .ensures) in (
       omega arith,
       omega arith,
       (c .before .out2) .given ∙ m .inv .2,
       (c .before .before .put-six) .ensures
-          ∙ six-turn (packetsOf (now (a .bytes))) (l .i) (m .i) (6 * m .i) (l .out) (m .out) _ (m .inv .0) (m .inv .3) (omega (arith, (c .before .before .before .before .before .before .before .before .before .before .before .before .before .pre) .1, l .inv .1)) refl s,
+          ∙ six-turn (packetsOf (now (a .bytes))) (l .i) (m .i) (6 * m .i) (l .out) (m .out) _ (m .inv .0) (m .inv .3)
+          (omega (arith, (c .before .before .before .before .before .before .before .before .before .before .before .before .before .pre) .1, l .inv .1)) refl s,
     )
 
 same-length : tie.Need-same-length Inv-loop μ-loop Inv-loop2 μ-loop2

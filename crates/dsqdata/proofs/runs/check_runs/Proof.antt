@@ -72,7 +72,8 @@ returns c =
     let l = (c .before .before .before .before .before .before .loop) in
     let i = now (a .index) in
     let s = now (a .sequence) in
-    let to = end-after i packetTable (l .k) _ _ ((c .before .before .before .after-end) .ensures) ((c .before .before .before .before .signed8) .ok) ((c .before .before .before .before .signed8) .ensures) in
+    let to = end-after i packetTable (l .k) _ _ ((c .before .before .before .after-end) .ensures) ((c .before .before .before .before .signed8) .ok)
+    ((c .before .before .before .before .signed8) .ensures) in
     let run = run-read i s (l .k) (a .alphabet) (l .from .0) _ _ (l .inv .1) to ((c .before .before .read-run) .ensures) in
     let e = run-refused (a .alphabet) (runAt i s (l .k)) _ run ((c .enum-told) .given .1) in
     let fine = Totals (sumTo (residuesAt i s) (a .n)) (largestTo (residuesAt i s) (a .n)) in
@@ -84,7 +85,8 @@ add-residues c =
     let l = (c .before .before .before .before .before .before .before .loop) in
     let i = now (a .index) in
     let s = now (a .sequence) in
-    let to = end-after i packetTable (l .k) _ _ ((c .before .before .before .before .after-end) .ensures) ((c .before .before .before .before .before .signed8) .ok) ((c .before .before .before .before .before .signed8) .ensures) in
+    let to = end-after i packetTable (l .k) _ _ ((c .before .before .before .before .after-end) .ensures)
+    ((c .before .before .before .before .before .signed8) .ok) ((c .before .before .before .before .before .signed8) .ensures) in
     let run = run-read i s (l .k) (a .alphabet) (l .from .0) _ _ (l .inv .1) to ((c .before .before .before .read-run) .ensures) in
     let g = run-passed (a .alphabet) (runAt i s (l .k)) _ run ((c .before .count) .given .0 .0) ((c .before .count) .given .1) in
     let n = g .1 in
@@ -105,7 +107,8 @@ loop-again c =
     let l = (c .before .before .before .before .before .before .before .before .loop) in
     let i = now (a .index) in
     let s = now (a .sequence) in
-    let to = end-after i packetTable (l .k) _ _ ((c .before .before .before .before .before .after-end) .ensures) ((c .before .before .before .before .before .before .signed8) .ok) ((c .before .before .before .before .before .before .signed8) .ensures) in
+    let to = end-after i packetTable (l .k) _ _ ((c .before .before .before .before .before .after-end) .ensures)
+    ((c .before .before .before .before .before .before .signed8) .ok) ((c .before .before .before .before .before .before .signed8) .ensures) in
     let run = run-read i s (l .k) (a .alphabet) (l .from .0) _ _ (l .inv .1) to ((c .before .before .before .before .read-run) .ensures) in
     let g = run-passed (a .alphabet) (runAt i s (l .k)) _ run ((c .before .before .count) .given .0 .0) ((c .before .before .count) .given .1) in
     let n = g .1 in (

@@ -9,68 +9,75 @@ use borrow.Author.Needs.{needs}
 use Rattle.packets.proofs.encoding.two_bit.Statement.{statement}
 use Rattle.packets.proofs.encoding.two_bit.Tie as tie
 
--- src/encoding.rt:106:16
 four-at-requires : tie.Need-four-at-requires
 four-at-requires c κs = omega (arith, plain-long 15 (now ((c .before .args) .next)) ((c .before .pre)))
 
--- src/encoding.rt:106:5
 four-bases-requires : tie.Need-four-bases-requires
 four-bases-requires c κs = search needs
 
--- src/encoding.rt:106:5
 mul-result : tie.Need-mul-result
 mul-result c = search needs
 
--- src/encoding.rt:107:22
 four-at-requires-2 : tie.Need-four-at-requires-2
 four-at-requires-2 c κs = omega (arith, plain-long 15 (now ((c .before .before .before .args) .next)) ((c .before .before .before .pre)))
 
--- src/encoding.rt:107:11
 four-bases-requires-2 : tie.Need-four-bases-requires-2
 four-bases-requires-2 c κs = search needs
 
--- src/encoding.rt:107:11
 mul-result-2 : tie.Need-mul-result-2
 mul-result-2 c = search needs
 
--- src/encoding.rt:106:5
 add-result : tie.Need-add-result
 add-result c = search needs
 
--- src/encoding.rt:108:22
 four-at-requires-3 : tie.Need-four-at-requires-3
-four-at-requires-3 c κs = omega (arith, plain-long 15 (now ((c .before .before .before .before .before .args) .next)) ((c .before .before .before .before .before .pre)))
+four-at-requires-3 c κs = omega (
+  arith,
+  plain-long 15 (now ((c .before .before .before .before .before .args) .next))
+      ((c .before .before .before .before .before .pre)),
+)
 
--- src/encoding.rt:108:11
 four-bases-requires-3 : tie.Need-four-bases-requires-3
 four-bases-requires-3 c κs = search needs
 
--- src/encoding.rt:108:11
 mul-result-3 : tie.Need-mul-result-3
 mul-result-3 c = search needs
 
--- src/encoding.rt:106:5
 add-result-2 : tie.Need-add-result-2
 add-result-2 c = search needs
 
--- src/encoding.rt:109:22
 four-at-requires-4 : tie.Need-four-at-requires-4
-four-at-requires-4 c κs = omega (arith, plain-long 15 (now ((c .before .before .before .before .before .before .before .args) .next)) ((c .before .before .before .before .before .before .before .pre)))
+four-at-requires-4 c κs = omega (
+  arith,
+  plain-long 15 (now ((c .before .before .before .before .before .before .before .args) .next))
+      ((c .before .before .before .before .before .before .before .pre)),
+)
 
--- src/encoding.rt:109:11
 four-bases-requires-4 : tie.Need-four-bases-requires-4
 four-bases-requires-4 c κs = search needs
 
--- src/encoding.rt:106:5
 add-result-3 : tie.Need-add-result-3
 add-result-3 c = search needs
 
--- src/encoding.rt:101:1
 returns : tie.Need-returns
 returns c =
-    let moved : ℕ → ℕ = λ n. n * 1074791425 / 16777216 % 256 in (
-      bases-sum (now ((c .before .before .before .before .before .before .before .before .before .args) .next)) ((c .before .before .before .before .before .before .before .before .before .pre)) ((c .before .before .before .before .before .before .four-bases) .result) ((c .before .before .before .before .four-bases2) .result) ((c .before .before .four-bases3) .result) ((c .four-bases4) .result) ((c .before .before .before .before .before .before .four-bases) .ensures .0 ∙ ap moved ((c .before .before .before .before .before .before .before .four-at) .ensures .0)) ((c .before .before .before .before .four-bases2) .ensures .0 ∙ ap moved ((c .before .before .before .before .before .four-at2) .ensures .0)) ((c .before .before .four-bases3) .ensures .0 ∙ ap moved ((c .before .before .before .four-at3) .ensures .0)) ((c .four-bases4) .ensures .0 ∙ ap moved ((c .before .four-at4) .ensures .0)),
-      omega (arith, (c .before .before .before .before .before .before .four-bases) .ensures .1, (c .before .before .before .before .four-bases2) .ensures .1, (c .before .before .four-bases3) .ensures .1, (c .four-bases4) .ensures .1),
+    let moved : ℕ → ℕ = λ n. n * 0x40100401 / 16777216 % 256 in (
+      bases-sum (now ((c .before .before .before .before .before .before .before .before .before .args) .next))
+          ((c .before .before .before .before .before .before .before .before .before .pre))
+          ((c .before .before .before .before .before .before .four-bases) .result) ((c .before .before .before .before .four-bases2) .result)
+          ((c .before .before .four-bases3) .result) ((c .four-bases4) .result)
+          ((c .before .before .before .before .before .before .four-bases) .ensures .0 ∙ ap moved
+          ((c .before .before .before .before .before .before .before .four-at) .ensures .0))
+          ((c .before .before .before .before .four-bases2) .ensures .0 ∙ ap moved ((c .before .before .before .before .before .four-at2) .ensures .0))
+          ((c .before .before .four-bases3) .ensures .0 ∙ ap moved ((c .before .before .before .four-at3) .ensures .0))
+          ((c .four-bases4) .ensures .0 ∙ ap moved ((c .before .four-at4) .ensures .0)),
+      omega (
+        arith,
+        (c .before .before .before .before .before .before .four-bases) .ensures .1,
+        (c .before .before .before .before .four-bases2) .ensures .1,
+        (c .before .before .four-bases3) .ensures .1,
+        (c .four-bases4) .ensures .1,
+      ),
     )
 
 pub two-bit-spec : {M : Type 1} → statement M
