@@ -1,6 +1,6 @@
 pub mod Stores
 pub mod Sixes
-pub mod Begun
+pub mod Amino
 pub mod Answers
 pub mod Rules
 pub mod Bodies

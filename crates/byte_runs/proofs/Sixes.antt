@@ -1,23 +1,27 @@
--- The 5-bit codes of packets, taken apart and written one packet behind another. Assumes nothing.
+-- The 5-bit codes of packets, taken apart and written one packet behind another; and the packets of six amino codes. Assumes nothing.
 use mathlib.Core.Path.{_≡_, refl, sym, ap, _∙_}
 use mathlib.Core.Bool.{true}
 use mathlib.Core.List.{List, [], _∷_, _++_, append-assoc}
 use Prim.Native.Nat.{ℕ, zero, suc, _+_, _*_, _-_, _/_, _%_, _≤_, _<_}
 use native.Mathlib.Nat.{add-zero, zero-add, add-assoc}
 use native.Mathlib.Omega.{arith}
-use borrow.Author.Tests.{eqb-true, eqb-false}
+use borrow.Author.Tests.{lt-leb, eqb-true, eqb-false}
 use lib.Dec.{eqb}
-use lib.ListN.{length, drop, getD, set, length-append}
-use lib.Seq.{getD-set-same, getD-set-other}
+use lib.ListN.{length, drop, getD, set, length-append, length-drop}
+use lib.Seq.{getD-drop, getD-set-same, getD-set-other}
 use Rattle.laws.specs.Digits.{digits}
 use Rattle.laws.specs.Writing.{writtenAt}
-use Rattle.laws.proofs.Digits.{length-digits, digits-split}
+use Rattle.laws.proofs.Digits.{length-digits, digits-split, below-at}
 use Rattle.laws.proofs.Storing.{store-none}
 use Rattle.laws.proofs.Tests.{bool-cases}
 use Rattle.laws.proofs.Writing.{written-twice}
 use Rattle.fields.specs.Written.{littleBytes}
+use Rattle.residues.specs.Alphabets.{validCodes}
+use Rattle.packets.specs.Packing.{packet}
 use Rattle.packets.specs.Runs.{residues, wellFormed, unpacked}
 use Rattle.packets.proofs.Codes.{amino-codes}
+use Rattle.packets.proofs.Filled.{code-inside, five-sum}
+use Rattle.packets.proofs.Packing.{amino-five, packet-five}
 use Rattle.packets.proofs.Shapes.{well-inner}
 use Rattle.runs.proofs.Counts.{inner-from, last-from}
 use Rattle.byte_runs.specs.Sixes.{sixCodes, Split}
@@ -118,8 +122,7 @@ six-block ps i m d out so-far room =
     ap (λ (k : ℕ). writtenAt k (sixCodes ps i m) out) w
     ∙ (ap (λ (k : ℕ). writtenAt (0 + 6 * i) (sixCodes ps k m) out) z ∙ six-more ps 0 0 i m d out so-far (omega arith))
 
-pub six-join : (ps : List ℕ) (i n : ℕ) (d mid out : List ℕ) → mid ≡ writtenAt 0 (sixCodes ps 0 i) d → out ≡ writtenAt (6 * i) (sixCodes ps i (n - i)) mid
-    → i ≤ n
+pub six-join : (ps : List ℕ) (i n : ℕ) (d mid out : List ℕ) → mid ≡ writtenAt 0 (sixCodes ps 0 i) d → out ≡ writtenAt (6 * i) (sixCodes ps i (n - i)) mid → i ≤ n
     → 6 * n ≤ length d → out ≡ writtenAt 0 (sixCodes ps 0 n) d
 six-join ps i n d mid out e f h room =
     let s : i + (n - i) ≡ n = omega arith in
@@ -179,8 +182,7 @@ module _ (ps : List ℕ) (e : wellFormed 3 ps ≡ true) where
   amino-whole last h =
       let q = last-from 3 ps e last h in
       aminos last (omega arith)
-      ∙ ap (λ (l : List ℕ). sixCodes ps 0 last ++ l)
-      (q .0 ∙ (ap (λ (l : List ℕ). residues (getD ps last 0) ++ l) (q .1) ∙ append-none (residues (getD ps last 0))))
+      ∙ ap (λ (l : List ℕ). sixCodes ps 0 last ++ l) (q .0 ∙ (ap (λ (l : List ℕ). residues (getD ps last 0) ++ l) (q .1) ∙ append-none (residues (getD ps last 0))))
 
   pub amino-length : (last : ℕ) → last + 1 ≡ length ps → length (unpacked ps) ≡ 6 * last + length (residues (getD ps last 0))
   amino-length last h =
@@ -197,3 +199,22 @@ module _ (ps : List ℕ) (e : wellFormed 3 ps ≡ true) where
       ap (λ (n : ℕ). writtenAt n ys out) k
       ∙ (ap (λ (o : List ℕ). writtenAt (0 + length xs) ys o) so-far
       ∙ (written-twice 0 xs ys d (omega (arith, amino-length last h)) ∙ ap (λ (z : List ℕ). writtenAt 0 z d) (sym (amino-whole last h))))
+
+-- ---- packing six amino codes
+
+module _ (cs : List ℕ) (at : ℕ) (more : at + 6 < length cs) (valid : validCodes 3 cs ≡ true) where
+  pub code-small : (k : ℕ) → getD cs k 0 < 28
+  code-small k = below-at 28 k cs (omega arith) valid
+
+  inside : (k c : ℕ) → k < 6 → c ≡ getD cs (at + k) 0 → c ≡ getD (drop at cs) k 31
+  inside k c h e = e ∙ (code-inside cs (at + k) (omega arith) ∙ sym (getD-drop at cs k 31))
+
+  pub amino-sum : (c₀ c₁ c₂ c₃ c₄ c₅ : ℕ) → c₀ ≡ getD cs at 0 → c₁ ≡ getD cs (at + 1) 0 → c₂ ≡ getD cs (at + 2) 0 → c₃ ≡ getD cs (at + 3) 0
+      → c₄ ≡ getD cs (at + 4) 0 → c₅ ≡ getD cs (at + 5) 0
+      → 1073741824 + c₀ * 33554432 + c₁ * 1048576 + c₂ * 32768 + c₃ * 1024 + c₄ * 32 + c₅ ≡ packet 3 (drop at cs)
+  amino-sum c₀ c₁ c₂ c₃ c₄ c₅ e₀ e₁ e₂ e₃ e₄ e₅ =
+      let ds = drop at cs in
+      let z : at + 0 ≡ at = omega arith in
+      let n : 6 < length ds = omega (arith, length-drop at cs) in
+      let f = five-sum ds c₀ c₁ c₂ c₃ c₄ c₅ (inside 0 c₀ (omega arith) (rw z e₀)) (inside 1 c₁ (omega arith) e₁) (inside 2 c₂ (omega arith) e₂) (inside 3 c₃ (omega arith) e₃) (inside 4 c₄ (omega arith) e₄) (inside 5 c₅ (omega arith) e₅) in
+      f ∙ (sym (zero-add _) ∙ sym (packet-five 3 ds (length ds) (amino-five 3 ds refl) ∙ rw (lt-leb (length ds) 6 n)))
