@@ -2,6 +2,7 @@ pub mod Tests
 pub mod Places
 pub mod Rules
 pub mod Writing
+pub mod Begun
 pub mod Digits
 pub mod Verdicts
 pub mod Numbers

@@ -72,6 +72,14 @@ module _ (h : ℕ) (bytes : List ℕ) (from to : ℕ) (low : from ≤ to) (high 
       ∙ (four-same part (drop h bytes) (4 * k) (4 * (from + k)) (λ j m. part-byte k j g m)
       ∙ (sym (packets-at (drop h bytes) (from + k) (omega arith)) ∙ sym (slice-at from to (packetsOf (drop h bytes)) k 0 (omega arith)))))
 
+-- the packets of the bytes from a packet on
+pub packets-from : (bytes : List ℕ) (i k : ℕ) → i + k < length bytes / 4 → getD (packetsOf (drop (4 * i) bytes)) k 0 ≡ getD (packetsOf bytes) (i + k) 0
+packets-from bytes i k h =
+    packets-at (drop (4 * i) bytes) k (omega (arith, length-drop (4 * i) bytes))
+    ∙ four-same (drop (4 * i) bytes) bytes (4 * k) (4 * (i + k))
+    (λ j l. getD-drop (4 * i) bytes (4 * k + j) 0 ∙ ap (λ (n : ℕ). getD bytes n 0) (let e : 4 * i + (4 * k + j) ≡ 4 * (i + k) + j = omega arith in e))
+    ∙ sym (packets-at bytes (i + k) h)
+
 -- ---- the bytes of packets
 
 pub length-bytes : (ps : List ℕ) → length (bytesOf ps) ≡ 4 * length ps

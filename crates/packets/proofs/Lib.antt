@@ -13,3 +13,4 @@ pub mod Reading
 pub mod Ends
 pub mod Bytes
 pub mod Rules
+pub mod Behind
