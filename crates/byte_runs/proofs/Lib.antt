@@ -1,5 +1,6 @@
 pub mod Stores
 pub mod Sixes
+pub mod Blocks
 pub mod Amino
 pub mod Answers
 pub mod Rules

@@ -1,4 +1,4 @@
-pub mod Sixes
+pub mod Blocks
 pub mod Bytes
 pub mod Rules
 pub mod Bodies

@@ -27,7 +27,7 @@ fn inner_faults(alphabet: u32, bytes: &[u8], count: usize) -> u32
 }
 
 // How many of the first packets hold 5-bit codes.
-fn five_bit_packets(bytes: &[u8], count: usize) -> u32
+pub(crate) fn five_bit_packets(bytes: &[u8], count: usize) -> u32
     requires { ⌜ (count ≤ length (now bytes) / 4) × (count ≤ 536870912) ⌝ }
     ensures { λ r. ⌜ r ≡ fiveBitTo (packetsOf (now (bytes .entry))) count ⌝ }
 {

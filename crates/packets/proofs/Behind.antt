@@ -3,7 +3,7 @@ use mathlib.Core.Path.{_≡_, refl, sym, ap, _∙_}
 use mathlib.Core.Bool.{true, false}
 use mathlib.Core.List.{List, [], _++_, append-assoc, append-nil}
 use Prim.Native.Nat.{ℕ, zero, suc, _+_, _*_, _/_, _%_, _^_, _≤_, _<_}
-use native.Mathlib.Nat.{add-zero, add-assoc, mul-suc}
+use native.Mathlib.Nat.{add-zero, zero-add, add-assoc, mul-suc}
 use native.Mathlib.Numerals.{add-one}
 use native.Mathlib.Omega.{arith}
 use borrow.Author.Tests.{eqb-true, eqb-false, ne-eqb}
@@ -93,8 +93,13 @@ module _ (a : ℕ) (ps : List ℕ) (e : wellFormed a ps ≡ true) where
       (so-far : Begun place (codesFrom ps from n) (place + length (unpacked (drop from ps))) d out) where
     pub behind-room : from + n + 1 < length ps → at + length (codesIn p) ≤ place + length (unpacked (drop from ps))
     behind-room h =
-        omega (arith, count-split from n (omega arith), ap length (inner-from (from + n) h), length-append (codesIn p) (unpacked (drop (from + n + 1) ps)),
-        ap (λ (x : ℕ). length (codesIn x ++ unpacked (drop (from + n + 1) ps))) l)
+        omega (
+          arith,
+          count-split from n (omega arith),
+          ap length (inner-from (from + n) h),
+          length-append (codesIn p) (unpacked (drop (from + n + 1) ps)),
+          ap (λ (x : ℕ). length (codesIn x ++ unpacked (drop (from + n + 1) ps))) l,
+        )
 
     pub behind-more : from + n + 1 < length ps
         → Begun place (codesFrom ps from (n + 1)) (place + length (unpacked (drop from ps))) d (writtenAt at (codesIn p) out)
@@ -130,3 +135,22 @@ module _ (a : ℕ) (ps : List ℕ) (e : wellFormed a ps ≡ true) where
         begun-whole place E xs d (writtenAt at (residues p) out) (ap (λ (z : List ℕ). place + length z) (sym (last-is h)))
         (begun-join place E (codesFrom ps from n) (residues p) d out _ so-far (rw (← here) b))
         ∙ ap (λ (z : List ℕ). writtenAt place z d) (sym (last-is h))
+
+  pub first-split : (n : ℕ) → n < length ps → unpacked ps ≡ codesFrom ps 0 n ++ unpacked (drop n ps)
+  first-split n h = codes-split 0 n (rw (zero-add n) h) ∙ rw (zero-add n)
+
+  pub first-count : (n : ℕ) → n < length ps → length (unpacked ps) ≡ length (codesFrom ps 0 n) + length (unpacked (drop n ps))
+  first-count n h = ap length (first-split n h) ∙ length-append (codesFrom ps 0 n) (unpacked (drop n ps))
+
+  -- the first n packets are written, and the residues from there on behind them
+  pub written-split : (n : ℕ) → n < length ps → (d out : List ℕ) (at : ℕ) → length (unpacked ps) ≤ length d → at ≡ length (codesFrom ps 0 n)
+      → Begun 0 (codesFrom ps 0 n) (length (unpacked ps)) d out → writtenAt at (unpacked (drop n ps)) out ≡ writtenAt 0 (unpacked ps) d
+  written-split n h d out at room here so-far =
+      let E = length (unpacked ps) in
+      let ys = unpacked (drop n ps) in
+      let s = first-split n h in
+      let c : at + length ys ≡ E = omega (arith, first-count n h) in
+      let b : Begun at ys E out (writtenAt at ys out) = begun-written at E ys ys out (take-length ys) (omega arith) (omega (arith, so-far .size)) in
+      begun-whole 0 E (codesFrom ps 0 n ++ ys) d (writtenAt at ys out) (zero-add _ ∙ ap length (sym s))
+      (begun-join 0 E (codesFrom ps 0 n) ys d out (writtenAt at ys out) so-far (rw (zero-add (length (codesFrom ps 0 n)), ← here) b))
+      ∙ ap (λ (z : List ℕ). writtenAt 0 z d) (sym s)

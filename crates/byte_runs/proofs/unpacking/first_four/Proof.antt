@@ -1,5 +1,5 @@
 -- `byte_runs::unpacking::first_four`: four codes, each in its byte. Assumes nothing.
-use Rattle.byte_runs.proofs.Sixes.{first-four}
+use Rattle.byte_runs.proofs.Blocks.{first-four}
 use borrow.Author.Needs.{needs}
 use Rattle.byte_runs.proofs.unpacking.first_four.Statement.{statement}
 use Rattle.byte_runs.proofs.unpacking.first_four.Tie as tie

@@ -1,5 +1,5 @@
 -- `byte_runs::unpacking::last_two`: two codes, each in its byte. Assumes nothing.
-use Rattle.byte_runs.proofs.Sixes.{last-two}
+use Rattle.byte_runs.proofs.Blocks.{last-two}
 use borrow.Author.Needs.{needs}
 use Rattle.byte_runs.proofs.unpacking.last_two.Statement.{statement}
 use Rattle.byte_runs.proofs.unpacking.last_two.Tie as tie

@@ -1,39 +1,38 @@
--- `byte_runs::unpacking::put_sixteen`: sixteen packets taken apart, and then written one behind the other. Assumes nothing.
-use mathlib.Core.Path.{_≡_, refl, _∙_}
-use Prim.Native.Nat.{_≤_, _-_, _+_, _*_}
+-- `byte_runs::unpacking::put_sixes`: sixteen packets taken apart, and then written one behind another. Assumes nothing.
+use mathlib.Core.Path.{_≡_, refl, sym, ap, _∙_}
+use Prim.Native.Nat.{_+_, _*_, _-_, _≤_, _<_}
 use native.Mathlib.Omega.{arith}
-use lib.ListN.{length, length-set}
+use lib.ListN.{length, getD, length-set}
 use denote.Ref.{now}
-use Rattle.laws.specs.Writing.{writtenAt}
+use Rattle.laws.specs.Writing.{Begun}
 use Rattle.packets.specs.Bytes.{packetsOf}
-use Rattle.byte_runs.specs.Sixes.{sixCodes, Split}
-use Rattle.byte_runs.proofs.Sixes.{split-more, six-none, six-next}
+use Rattle.packets.specs.Decoded.{codesFrom}
+use Rattle.packets.specs.Runs.{isFiveBit}
+use Rattle.laws.proofs.Begun.{begun-whole}
+use Rattle.packets.proofs.Codes.{codes-five}
+use Rattle.byte_runs.specs.Blocks.{InTwo}
+use Rattle.byte_runs.proofs.Blocks.{six-parts, two-more, begun-start, begun-more, front-is, fives-count}
 use borrow.Author.Needs.{needs}
-use Rattle.byte_runs.proofs.unpacking.put_sixteen.Statement.{statement}
-use Rattle.byte_runs.proofs.unpacking.put_sixteen.Tie as tie
+use Rattle.byte_runs.proofs.unpacking.put_sixes.Statement.{statement}
+use Rattle.byte_runs.proofs.unpacking.put_sixes.Tie as tie
 
 abbrev Inv-loop : tie.InvT-loop
-Inv-loop bytes from out fours₀ twos₀ i₀ fours twos i = (i ≤ 16) × (length fours ≡ 16) × (length twos ≡ 16) × Split (packetsOf bytes) from i fours twos
+Inv-loop block out at fours₀ twos₀ i₀ fours twos i = (i ≤ 16) × (length fours ≡ 16) × (length twos ≡ 16) × InTwo (packetsOf block) i fours twos
 
 abbrev μ-loop : tie.MeasureT-loop
-μ-loop bytes from out fours₀ twos₀ i₀ fours twos i = 16 - i
+μ-loop block out at fours₀ twos₀ i₀ fours twos i = 16 - i
 
 abbrev Inv-loop2 : tie.InvT-loop2
-Inv-loop2 bytes from out₀ fours twos i j₀ out j = (j ≤ 16) × (length out ≡ length out₀) × (out ≡ writtenAt (6 * from) (sixCodes (packetsOf bytes) from j) out₀)
+Inv-loop2 block out₀ at fours twos i j₀ out j = (j ≤ 16) × Begun at (codesFrom (packetsOf block) 0 j) (at + 96) out₀ out
 
 abbrev μ-loop2 : tie.MeasureT-loop2
-μ-loop2 bytes from out₀ fours twos i j₀ out j = 16 - j
+μ-loop2 block out₀ at fours twos i j₀ out j = 16 - j
 
 loop-holds : tie.Need-loop-holds Inv-loop μ-loop Inv-loop2 μ-loop2
-loop-holds c =
-    let a = (c .before .before .args) in
-    (omega arith, refl, refl, λ j h. let z : ⊥ = omega arith in absurd z)
-
-add-t10 : tie.Need-add-t10 Inv-loop μ-loop Inv-loop2 μ-loop2
-add-t10 c = omega (arith, (c .before .before .before .before .pre) .0)
+loop-holds c = (omega arith, refl, refl, λ j h. absurd (let z : ⊥ = omega arith in z))
 
 packet-at-requires : tie.Need-packet-at-requires Inv-loop μ-loop Inv-loop2 μ-loop2
-packet-at-requires c κs = omega (arith, (c .before .before .before .before .pre) .0)
+packet-at-requires c κs = omega (arith, (c .before .before .before .before .pre) .0 .0)
 
 first-four-requires : tie.Need-first-four-requires Inv-loop μ-loop Inv-loop2 μ-loop2
 first-four-requires c κs = search needs
@@ -62,19 +61,21 @@ loop-less c = search needs
 loop-again : tie.Need-loop-again Inv-loop μ-loop Inv-loop2 μ-loop2
 loop-again c =
     let a = (c .before .before .before .before .before .before .before .args) in
-    let l = (c .before .before .before .before .loop) in (
+    let l = (c .before .before .before .before .loop) in
+    let ps = packetsOf (now (a .block)) in
+    let p = (c .before .before .packet-at) in
+    let x = (c .before .first-four) in
+    let y = (c .last-two) in (
       omega arith,
       simp length-set (l .inv .1),
       simp length-set (l .inv .2),
-      split-more (packetsOf (now (a .bytes))) (a .from) (l .i) (l .fours) (l .twos)
-          ((c .before .before .packet-at) .result) ((c .before .first-four) .result) ((c .last-two) .result) (l .inv .3) (omega arith) (omega arith)
-          ((c .before .before .packet-at) .ensures) ((c .before .first-four) .ensures) ((c .last-two) .ensures),
+      two-more ps (l .i) (p .result) (p .ensures) (x .result) (y .result) (l .fours) (l .twos) (l .inv .3) (omega arith) (omega arith)
+          (six-parts (p .result) (x .result) (y .result) (x .ensures) (y .ensures)
+          ∙ sym (codes-five (p .result) (ap isFiveBit (p .ensures) ∙ (c .before .before .before .before .before .before .before .pre) .1 (l .i) (omega arith)))),
     )
 
 loop2-holds : tie.Need-loop2-holds Inv-loop μ-loop Inv-loop2 μ-loop2
-loop2-holds c =
-    let a = (c .before .before .before .before .args) in
-    (omega arith, refl, six-none (packetsOf (now (a .bytes))) (a .from) (6 * a .from) (now (a .out)))
+loop2-holds c = (omega arith, begun-start (packetsOf (now ((c .before .before .before .before .args) .block))) 0 ((c .before .before .before .before .args) .at) ((c .before .before .before .before .args) .at + 96) (now ((c .before .before .before .before .args) .out)))
 
 mul-put-six : tie.Need-mul-put-six Inv-loop μ-loop Inv-loop2 μ-loop2
 mul-put-six c = search needs
@@ -88,14 +89,14 @@ mul-put-six-2 c = search needs
 array-read-put-six-2 : tie.Need-array-read-put-six-2 Inv-loop μ-loop Inv-loop2 μ-loop2
 array-read-put-six-2 c = search needs
 
-add-put-six : tie.Need-add-put-six Inv-loop μ-loop Inv-loop2 μ-loop2
-add-put-six c = omega (arith, (c .before .before .before .before .before .before .before .pre) .0)
-
 mul-put-six-3 : tie.Need-mul-put-six-3 Inv-loop μ-loop Inv-loop2 μ-loop2
-mul-put-six-3 c = omega (arith, (c .before .before .before .before .before .before .before .pre) .1)
+mul-put-six-3 c = search needs
+
+add-put-six : tie.Need-add-put-six Inv-loop μ-loop Inv-loop2 μ-loop2
+add-put-six c = search needs
 
 put-six-requires : tie.Need-put-six-requires Inv-loop μ-loop Inv-loop2 μ-loop2
-put-six-requires c κs = omega (arith, (c .before .before .before .before .before .before .before .pre) .1, (c .before .before .loop2) .inv .1)
+put-six-requires c κs = omega (arith, (c .before .before .before .before .before .before .before .pre) .0 .1, (c .before .before .loop2) .inv .1 .size)
 
 add-j : tie.Need-add-j Inv-loop μ-loop Inv-loop2 μ-loop2
 add-j c = search needs
@@ -108,27 +109,28 @@ loop2-again c =
     let a = (c .before .before .before .before .before .before .before .before .before .before .args) in
     let l = (c .before .before .before .before .before .before .before .loop) in
     let m = (c .before .before .before .before .before .loop2) in
-    let ps = packetsOf (now (a .bytes)) in (
+    let ps = packetsOf (now (a .block)) in
+    let n = fives-count ps 16 (m .j) ((c .before .before .before .before .before .before .before .before .before .before .pre) .1) (omega arith) in (
       omega arith,
-      (c .before .out) .given ∙ m .inv .1,
-      (c .before .before .put-six) .ensures
-          ∙ six-next ps (a .from) (6 * a .from) (m .j) (6 * (a .from + m .j)) (now (a .out)) (m .out) _ (m .inv .2)
-          (omega (arith, (c .before .before .before .before .before .before .before .before .before .before .pre) .1)) (omega arith)
-          (l .inv .3 (m .j) (omega arith)),
+      rw ((c .before .before .put-six) .ensures)
+          (begun-more ps (m .j) (a .at) (a .at + 6 * m .j) (a .at + 96) (now (a .out)) (m .out) _ (m .inv .1) (omega arith)
+          (front-is _ _ (l .inv .3 (m .j) (omega arith))) (omega arith) ((c .before .before .before .before .before .before .before .before .before .before .pre) .0 .1)),
     )
 
 same-length : tie.Need-same-length Inv-loop μ-loop Inv-loop2 μ-loop2
-same-length c = (c .before .loop2) .inv .1
+same-length c = (c .before .loop2) .inv .1 .size
 
 returns : tie.Need-returns Inv-loop μ-loop Inv-loop2 μ-loop2
 returns c =
     let a = (c .before .before .before .before .before .before .args) in
     let m = (c .before .loop2) in
+    let ps = packetsOf (now (a .block)) in
     let n : m .j ≡ 16 = omega arith in
-    m .inv .2 ∙ rw n
+    begun-whole (a .at) (a .at + 96) (codesFrom ps 0 16) (now (a .out)) (m .out) (omega (arith, fives-count ps 16 16 ((c .before .before .before .before .before .before .pre) .1) (omega arith)))
+    (rw (← n) (m .inv .1))
 
-pub put-sixteen-spec : {M : Type 1} → statement M
-put-sixteen-spec =
+pub put-sixes-spec : {M : Type 1} → statement M
+put-sixes-spec =
     tie.close
     (tie.spec
     Inv-loop
@@ -136,7 +138,6 @@ put-sixteen-spec =
     Inv-loop2
     μ-loop2
     loop-holds
-    add-t10
     packet-at-requires
     first-four-requires
     mul-fours
@@ -152,8 +153,8 @@ put-sixteen-spec =
     array-read-put-six
     mul-put-six-2
     array-read-put-six-2
-    add-put-six
     mul-put-six-3
+    add-put-six
     put-six-requires
     add-j
     loop2-less
