@@ -7,11 +7,11 @@ use native.Mathlib.Omega.{arith}
 use lib.Dec.{ltb}
 use lib.IntN.{pos}
 use lib.ListN.{length, getD, take}
-use borrow.Author.Tests.{leb-true, le-leb, ltb-true}
+use borrow.Author.Tests.{leb-true, le-leb, ltb-true, lt-ltb}
 use Rattle.laws.specs.Rules.{ask, AllHold}
 use Rattle.laws.specs.Signed.{toNat}
-use Rattle.laws.proofs.Rules.{verdict-passes, hold-first, hold-second}
-use Rattle.laws.proofs.Signed.{le-test, at-least-zero}
+use Rattle.laws.proofs.Rules.{verdict-passes, hold-append, hold-first, hold-second}
+use Rattle.laws.proofs.Signed.{le-test, test-le, at-least-zero}
 use Rattle.answers.specs.declared.Refusal.the-variants.{NoSuchSequence}
 use Rattle.answers.specs.declared.Checked.the-variants.{Passed}
 use Rattle.answers.proofs.Checks.{holds-passed}
@@ -43,7 +43,7 @@ use Rattle.deflines.specs.declared.Identifier.the-variants.{Other}
 use Rattle.deflines.specs.declared.IdentifierAnswer.the-variants as Identifier
 use Rattle.deflines.proofs.Written.{titles-are, title-is, identifiers-count, identifier-is}
 use Rattle.labels.specs.Label.{recordLabel, ownRules, labelOf, labelNumber}
-use Rattle.labels.specs.Holds.{LabelHolds}
+use Rattle.labels.specs.Holds.{LabelOffsets, LabelHolds}
 use Rattle.labels.proofs.Written.{label-is}
 use Rattle.demands.specs.Order.{lowOffset, highOffset, labelOffsetRules}
 use Rattle.demands.proofs.Order.{read-index-order, title-order, identifier-order, label-order, low-high, high-size}
@@ -54,9 +54,11 @@ module _ (index : List ℕ) where
   read-means : AllHold (readRules index) → (length index ≤ 2147483647) × FieldsHold index
   read-means a = (leb-true _ _ (a .0), fields-of index (index-tests index (a .1)))
 
+  means-rules : length index ≤ 2147483647 → FieldsHold index → AllHold (readRules index)
+  means-rules small f = (le-leb _ _ small, index-tests-back index (fields-test index f))
+
   means-read : length index ≤ 2147483647 → FieldsHold index → indexAnswer index ≡ Index.Read (indexOf index)
-  means-read small f =
-      verdict-passes Index.Refused (Index.Read (indexOf index)) (readRules index) (le-leb _ _ small, index-tests-back index (fields-test index f))
+  means-read small f = verdict-passes Index.Refused (Index.Read (indexOf index)) (readRules index) (means-rules small f)
 
   -- `read_index` answers 0 only where the fields hold, and returns their numbers; and it answers 0 there.
   pub index-reads-only : indexNumber (indexAnswer index) ≡ 0
@@ -139,10 +141,41 @@ written-zero title (E.close c e) = refl
 written-zero title (E.item line rest) = title-zero title (lineTitles (line .fields))
 
 module _ (index header : List ℕ) (i : ℕ) where
+  -- the rules before the record
+  pub offsets-of : AllHold (labelOffsetRules index header i) → LabelOffsets index header i
+  offsets-of before =
+      let low = lowOffset index i in
+      let high = highOffset index i in
+      let own = ownRules (length header) low high in
+      let more = ask (ltb i (sequences index)) NoSuchSequence ∷ own in
+      let behind = hold-second (readRules index) more (before .1) in
+      let m = read-means index (hold-first (readRules index) more (before .1)) in
+      let o = behind .1 in
+      record {
+        indexSize = m .0;
+        headerSize = leb-true (length header) 2147483647 (before .0);
+        fields = m .1;
+        number = ltb-true i (sequences index) (behind .0);
+        first = le-test (pos 0) low (at-least-zero low ∙ o .0);
+        step = le-test low high (o .1 .0);
+        last = le-test high (pos (length header)) (o .1 .1 .0);
+      }
+
+  pub offsets-rules : LabelOffsets index header i → AllHold (labelOffsetRules index header i)
+  offsets-rules h =
+      let low = lowOffset index i in
+      let high = highOffset index i in
+      let first = sym (at-least-zero low) ∙ test-le (pos 0) low (h .first) in
+      let own : AllHold (ownRules (length header) low high) = (first, (test-le low high (h .step), (test-le high (pos (length header)) (h .last), tt))) in
+      let more = ask (ltb i (sequences index)) NoSuchSequence ∷ ownRules (length header) low high in
+      let read = means-rules index (h .indexSize) (h .fields) in
+      (le-leb _ _ (h .headerSize), hold-append (readRules index) more read (lt-ltb i (sequences index) (h .number), own))
+
   -- the label where the rules hold
   label-of : (h : LabelHolds index header i) → labelOf index header i ≡ recordLabel (titleLength index) (firstWritten (h .good))
   label-of h =
-      label-is index header i (h .headerSize) (indexOf index) (means-read index (h .indexSize) (h .fields)) (h .number) (h .first) (h .step) (h .last) (h .good)
+      let o = h .offsets in
+      label-is index header i (o .headerSize) (indexOf index) (means-read index (o .indexSize) (o .fields)) (o .number) (o .first) (o .step) (o .last) (h .good)
 
   holds-of : labelNumber (labelOf index header i) ≡ 0 → LabelHolds index header i
   holds-of z =
@@ -152,24 +185,13 @@ module _ (index header : List ℕ) (i : ℕ) where
       let h = label-order index header i .passes .0 z in
       let before = hold-first (labelOffsetRules index header i) element h in
       let own = ownRules (length header) low high in
-      let behind = hold-second (readRules index) (ask (ltb i (sequences index)) NoSuchSequence ∷ own) (before .1) in
-      let m = read-means index (hold-first (readRules index) (ask (ltb i (sequences index)) NoSuchSequence ∷ own) (before .1)) in
-      let o = behind .1 in
-      let small = leb-true (length header) 2147483647 (before .0) in
+      let o = hold-second (readRules index) (ask (ltb i (sequences index)) NoSuchSequence ∷ own) (before .1) .1 in
       let ordered = low-high low high (o .0) (o .1 .0) in
       let fits = high-size high (length header) (o .1 .1 .0) in
       let read = holds-passed element (hold-second (labelOffsetRules index header i) element h) in
+      let small = leb-true (length header) 2147483647 (before .0) in
       let passed = sym (record-element header (toNat low) (toNat high) small ordered Passed fits (sym read)) in
-      record {
-        indexSize = m .0;
-        headerSize = small;
-        fields = m .1;
-        number = ltb-true i (sequences index) (behind .0);
-        first = le-test (pos 0) low (at-least-zero low ∙ o .0);
-        step = le-test low high (o .1 .0);
-        last = le-test high (pos (length header)) (o .1 .1 .0);
-        good = passes-good header (toNat low) (toNat high) passed;
-      }
+      record { offsets = offsets-of before; good = passes-good header (toNat low) (toNat high) passed }
 
   -- The label call answers 0 only where its rules hold, and the label is then the title that the first def-line writes, or the volume title; and it
   -- answers 0 there.

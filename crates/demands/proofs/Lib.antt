@@ -9,3 +9,4 @@ pub mod Demand3
 pub mod Given
 pub mod Demand2
 pub mod Demand2Reads
+pub mod Refusals

@@ -349,7 +349,8 @@ module _ (index header : List ℕ) (number : ℕ) where
       ap labelled (sym c) ∙ verdict-handed Check.Refused Label.Refused labelled (λ r. refl) Check.Passed rules
 
   -- the rules before the record, as one list
-  label-offsets : labelOf index header number ≡ verdict Label.Refused (recordLabel (titleLength index) (firstOf header low high)) (labelOffsetRules index header number)
+  pub label-offsets : labelOf index header number
+      ≡ verdict Label.Refused (recordLabel (titleLength index) (firstOf header (toNat (lowOffset index number)) (toNat (highOffset index number)))) (labelOffsetRules index header number)
   unfolding labelOf offsetsLabel
   label-offsets =
       let x = recordLabel (titleLength index) (firstOf header low high) in

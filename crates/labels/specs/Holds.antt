@@ -12,7 +12,8 @@ use Rattle.volume.specs.Index.{sequences}
 use Rattle.volume.specs.Tables.{headerOffset}
 use Rattle.volume.specs.Holds.{FieldsHold}
 
-pub record LabelHolds (index header : List ℕ) (i : ℕ) : Type 0 where
+-- Index, number, and the sequence's own header offsets.
+pub record LabelOffsets (index header : List ℕ) (i : ℕ) : Type 0 where
   -- no file is over 2,147,483,647 bytes
   pub indexSize : length index ≤ 2147483647
   pub headerSize : length header ≤ 2147483647
@@ -23,5 +24,8 @@ pub record LabelHolds (index header : List ℕ) (i : ℕ) : Type 0 where
   pub first : pos 0 ≤ℤ headerOffset index i
   pub step : headerOffset index i ≤ℤ headerOffset index (i + 1)
   pub last : headerOffset index (i + 1) ≤ℤ pos (length header)
+
+pub record LabelHolds (index header : List ℕ) (i : ℕ) : Type 0 where
+  pub offsets : LabelOffsets index header i
   -- a good record stands between them
   pub good : GoodRecord header (toNat (headerOffset index i)) (toNat (headerOffset index (i + 1)))
