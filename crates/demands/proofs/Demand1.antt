@@ -22,7 +22,9 @@ use Rattle.packets.specs.Packing.{run}
 use Rattle.packets.specs.Runs.{unpacked}
 use Rattle.packets.specs.Bytes.{packetsOf, bytesOf}
 use Rattle.runs.specs.Answers.{packRules, packAnswer, packNumber, packValues, ifPacked, packetsAfter, unpackAnswer, unpackNumber, unpackValues, ifUnpacked, codesAfter}
-use Rattle.byte_runs.specs.Bytes.{packBytesAnswer, bytesAfter, unpackBytesAnswer, codesAfterBytes}
+use Rattle.byte_runs.specs.Bytes.{packBytesAnswer, bytesAfter, runIn, unpackBytesAnswer, codesAfterBytes}
+use Rattle.packets.specs.declared.RunLength.{RunLength}
+use Rattle.packets.specs.declared.RunLength.the-variants as Run
 use Rattle.runs.specs.declared.PackAnswer.{PackAnswer}
 use Rattle.runs.specs.declared.PackAnswer.the-variants as Pack
 use Rattle.runs.specs.declared.UnpackAnswer.{UnpackAnswer}
@@ -74,7 +76,7 @@ use Rattle.console.specs.Results.{resultsPut}
 use Rattle.console.specs.Calls.{consolePack, consoleBuffer, packResults, consoleUnpack, consoleCodes, unpackResults, consoleVolume, volumeResults}
 use Rattle.console.proofs.Values.{put-nothing}
 use Rattle.timing.specs.Calls.{timedSet, setResults}
-use Rattle.demands.specs.Numbers.{tableNumbers, InTable, Numbered, Refuses, Answered, Kept}
+use Rattle.demands.specs.Numbers.{tableNumbers, InTable, Numbered, Refuses, Answered, runNumber, runValues, Kept}
 
 -- ---- causes
 
@@ -126,6 +128,10 @@ pack-answered (Pack.Refused r) = refused r
 unpack-answered : (x : UnpackAnswer) → Answered (unpackNumber x) (unpackValues x)
 unpack-answered (Unpack.Unpacked n l) = fine (unpackValues (Unpack.Unpacked n l))
 unpack-answered (Unpack.Refused r) = refused r
+
+run-answered : (x : RunLength) → Answered (runNumber x) (runValues x)
+run-answered (Run.Residues l) = fine (runValues (Run.Residues l))
+run-answered Run.NoRun = refused R.BadRun
 
 index-answered : (x : IndexAnswer) → Answered (indexNumber x) (indexValues x)
 index-answered (Index.Read x) = fine (indexValues (Index.Read x))
@@ -251,6 +257,10 @@ module _ (alphabet : ℕ) where
   unpack-call packets out =
       let answer = unpackAnswer alphabet packets (length out) in
       (unpack-answered answer, unpacked-kept answer (unpacked packets) out)
+
+  -- `read_run`
+  pub read-run-call : (bytes : List ℕ) → Answered (runNumber (runIn alphabet bytes)) (runValues (runIn alphabet bytes))
+  read-run-call bytes = run-answered (runIn alphabet bytes)
 
   -- `unpack_bytes_answer`
   pub unpack-bytes-answer-call : (bytes : List ℕ) (room : ℕ) →

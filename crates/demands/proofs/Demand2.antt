@@ -1,5 +1,6 @@
 -- Demand 2 for volumes, sets, header records and sequences: a check passes, and a sequence decodes, exactly when document 01's rules hold; what decoding
--- can answer for a sequence of a volume that passes, and what it gives. Packing and unpacking are in Demand2Packets and Demand2Console. Assumes nothing.
+-- can answer for a sequence of a volume that passes, and what it gives. Reading an index, lookups, steps, identifiers and labels are in Demand2Reads, packing
+-- and unpacking in Demand2Packets and Demand2Console. Assumes nothing.
 use mathlib.Core.Path.{_≡_, refl, ap}
 use mathlib.Core.List.{List, [], _∷_}
 use mathlib.Core.Logic.{_⊎_}

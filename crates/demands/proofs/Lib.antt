@@ -8,3 +8,5 @@ pub mod Demand2Console
 pub mod Demand3
 pub mod Given
 pub mod Demand2
+pub mod Demand2Reads
+pub mod Refusals

@@ -309,12 +309,12 @@ module _ (header : List ℕ) (start end : ℕ) where
 
 -- ---- labels
 
-low-high : (low high : ℤ) → nonNeg low ≡ true → leZ low high ≡ true → toNat low ≤ toNat high
+pub low-high : (low high : ℤ) → nonNeg low ≡ true → leZ low high ≡ true → toNat low ≤ toNat high
 low-high (pos a) (pos b) h e = leb-true a b e
 low-high (pos a) (negsuc b) h e = never e
 low-high (negsuc a) high h e = never h
 
-high-size : (high : ℤ) (size : ℕ) → leZ high (pos size) ≡ true → toNat high ≤ size
+pub high-size : (high : ℤ) (size : ℕ) → leZ high (pos size) ≡ true → toNat high ≤ size
 high-size (pos a) size e = leb-true a size e
 high-size (negsuc a) size e = omega arith
 
@@ -349,7 +349,8 @@ module _ (index header : List ℕ) (number : ℕ) where
       ap labelled (sym c) ∙ verdict-handed Check.Refused Label.Refused labelled (λ r. refl) Check.Passed rules
 
   -- the rules before the record, as one list
-  label-offsets : labelOf index header number ≡ verdict Label.Refused (recordLabel (titleLength index) (firstOf header low high)) (labelOffsetRules index header number)
+  pub label-offsets : labelOf index header number
+      ≡ verdict Label.Refused (recordLabel (titleLength index) (firstOf header (toNat (lowOffset index number)) (toNat (highOffset index number)))) (labelOffsetRules index header number)
   unfolding labelOf offsetsLabel
   label-offsets =
       let x = recordLabel (titleLength index) (firstOf header low high) in

@@ -5,6 +5,10 @@ use mathlib.Core.Logic.{_⊎_}
 use mathlib.Core.List.{List, [], _∷_}
 use Prim.Native.Nat.{ℕ, _<_}
 use lib.ListN.{length, getD}
+use Rattle.answers.specs.Numbers.{numberOf}
+use Rattle.answers.specs.declared.Refusal.the-variants.{BadRun}
+use Rattle.packets.specs.declared.RunLength.{RunLength}
+use Rattle.packets.specs.declared.RunLength.the-variants.{Residues, NoRun}
 
 -- Document 01's table of answer numbers, row by row. It has no 16.
 abbrev pub tableNumbers : List ℕ
@@ -69,6 +73,15 @@ Refuses n = n ≡ 0 → ⊥
 pub record Answered {A : Type 0} (number : ℕ) (values : List A) : Type 0 where
   pub numbered : Numbered number
   pub alone : Refuses number → values ≡ []
+
+-- Document 01's number of what reading a run finds, and its value: L, the number of residues.
+abbrev pub runNumber : RunLength → ℕ
+runNumber (Residues l) = 0
+runNumber NoRun = numberOf BadRun
+
+abbrev pub runValues : RunLength → List ℕ
+runValues (Residues l) = l ∷ []
+runValues NoRun = []
 
 -- A refusal writes nowhere: a lent range is as it was.
 abbrev pub Kept : ℕ → List ℕ → List ℕ → Type 0

@@ -1,2 +1,3 @@
 pub mod Walker
 pub mod Label
+pub mod Holds
