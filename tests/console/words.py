@@ -102,6 +102,11 @@ def test_usage():
                   ('--files-from',), ('--files-from', '-', '--files-from', '-'), ('-x', v), ('--jsonx', v)):
         want(f'wrong usage {words}', run('gullcheck', *words), 2, '', 'usage: gullcheck')
     want('an option with ESC', run('gullcheck', '-\x1b[2J'), 2, '', r'"-\x1b[2J"')
+    want('the option is told, not its value', run('gullcheck', '-j', '0', v), 2, '', 'wrong or incomplete option -j\n')
+    bad = f'{SAMPLES}/re_nuc04'
+    first = run('gullcheck', '--json', '--quiet', '-j', '2', v, bad)
+    for words in ((v, '--json', bad, '--quiet', '-j', '2'), (v, bad, '-j2', '--quiet', '--json'), (v, '--quiet', '--json', '--', bad)):
+        want(f'options behind names {words}', run('gullcheck', *words), 1, first.out, '')
     for words in (('-j', '1'), ('-j256',), ('--json', '-j', '2', '--quiet')):
         want(f'good usage {words}', run('gullcheck', '--quiet', *words, v), 0, '', '')
     w = fresh('dashes')
