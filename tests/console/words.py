@@ -245,6 +245,25 @@ def test_limit(small):
     want('a byte over it is 22', run(small, index), 1, f'{index}: refused 22: an input is over 2,147,483,647 bytes (the header file has 100001)\n')
 
 
+def test_header(swapped, lent):
+    """The header file is not read: the library is lent a range of its length that is really there, all zeros."""
+    w = fresh('header')
+    index = copy_volume('re_nuc0', f'{w}/v')
+    path = {'PATH': os.environ['PATH']}
+    line = f'{index}: {passed_line("re_nuc0")}\n'
+    want('two reads of index and sequence file each, none of the header file', run(swapped, index, env={'AT_READ_5': 'false', **path}), 0,
+         line, '')
+    want('a read too many ends the trial', run(swapped, index, env={'AT_READ_4': 'false', **path}), -signal.SIGABRT)
+    want('every byte of the ranges is there', run(lent, index), 0, line, '')
+    want('also for a hint', run(lent, f'{SAMPLES}/mb_nuc'), 1, run('gullcheck', f'{SAMPLES}/mb_nuc').out, '')
+    os.truncate(f'{w}/v.nhr', 100000000)
+    want('also of a large header file', run(lent, index), 1,
+         f'{index}: refused 7: offsets break their rules (the index states 1786 bytes for the header file, it has 100000000)\n', '')
+    os.truncate(f'{w}/v.nhr', 0)
+    want('and of an empty one', run(lent, index), 1,
+         f'{index}: refused 7: offsets break their rules (the index states 1786 bytes for the header file, it has 0)\n', '')
+
+
 def on_terminal(*words):
     """What a terminal gets, escape sequences made visible."""
     ours, theirs = pty.openpty()
@@ -277,6 +296,7 @@ def test_all():
     wraps = ['-Wl,--wrap=open,--wrap=read']
     swapped = build('swapped', 'gullcheck', wraps, 'tests/swap.c')
     small = build('small', 'gullcheck', ['-DMOST_INPUT=100000'])
+    lent = build('lent', 'gullcheck', ['-Wl,--wrap=gull_check_volume'], 'tests/lent.c')
     test_usage()
     test_help()
     test_directories()
@@ -286,5 +306,6 @@ def test_all():
     test_swapped(swapped)
     test_jobs(swapped)
     test_limit(small)
+    test_header(swapped, lent)
     test_lines()
     test_terminal()
