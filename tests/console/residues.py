@@ -97,7 +97,7 @@ def test_limit():
             file.seek(1)
             want(f'{program} without memory', run(program, 'dna', stdin=file, **tight), 2, b'', 'Cannot allocate memory\n')
     os.remove(f'{w}/sparse')
-    small = build('small-pack', 'gullpack', ['-DMOST_INPUT=100000'])
+    small = build('small-pack', 'gullpack', '-DMOST_INPUT=100000')
     full = bytes(100000)
     want('a pipe at the limit', run(small, 'dna', data=full), 0, own('pack', 2, full), '')
     want('a pipe a byte over it', run(small, 'dna', data=full + b'\0'), 1, b'', 'refused 22')

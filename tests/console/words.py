@@ -293,10 +293,9 @@ def test_terminal():
 
 
 def test_all():
-    wraps = ['-Wl,--wrap=open,--wrap=read']
-    swapped = build('swapped', 'gullcheck', wraps, 'tests/swap.c')
-    small = build('small', 'gullcheck', ['-DMOST_INPUT=100000'])
-    lent = build('lent', 'gullcheck', ['-Wl,--wrap=gull_check_volume'], 'tests/lent.c')
+    swapped = build('swapped', 'gullcheck', '-Wl,--wrap=open,--wrap=read', 'tests/swap.c')
+    small = build('small', 'gullcheck', '-DMOST_INPUT=100000')
+    lent = build('lent', 'gullcheck', '-Wl,--wrap=gull_check_volume', 'tests/lent.c')
     test_usage()
     test_help()
     test_directories()
