@@ -12,6 +12,7 @@ SAMPLES = 'samples/volumes'
 PATIENCE = 10
 PARTS = {'gullcheck': ('gullcheck', 'report', 'names', 'volume', 'hint', 'jobs'), 'gullpack': ('gullpack', 'convert', 'letters'),
          'gullunpack': ('gullunpack', 'convert', 'letters')}
+SANITIZERS = ('-g', '-fsanitize=address,undefined', '-fno-sanitize-recover')
 
 passed = failed = 0
 

@@ -209,6 +209,8 @@ def test_damaged():
     answers = [str(o.get('answer')) for o in json_of(done)]
     count(answers == [line.split(' ')[0] for line in expected], 'the answers of 400 damaged volumes', answers)
     count(len(set(answers)) > 6, 'of many kinds', set(answers))
+    guarded = run(build('guarded', 'gullcheck', *SANITIZERS), '--json', '-j', '2', os.path.dirname(names[0]))
+    count((guarded.status, guarded.out, guarded.err) == (done.status, done.out, b''), 'the sanitizers find nothing on them', guarded.err)
 
 
 def test_unreadable():
