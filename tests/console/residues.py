@@ -96,6 +96,10 @@ def test_limit():
         with open(f'{w}/sparse', 'rb') as file:
             file.seek(1)
             want(f'{program} without memory', run(program, 'dna', stdin=file, **tight), 2, b'', 'Cannot allocate memory\n')
+    for program, size in (('gullpack', 200000000), ('gullunpack', 80000000)):
+        os.truncate(f'{w}/sparse', size)
+        with open(f'{w}/sparse', 'rb') as file:
+            want(f'{program} without memory for its output', run(program, 'dna', stdin=file, **tight), 2, b'', f'{program}: no memory\n')
     os.remove(f'{w}/sparse')
     small = build('small-pack', 'gullpack', '-DMOST_INPUT=100000')
     full = bytes(100000)
