@@ -16,7 +16,7 @@ def tree():
         os.makedirs(f'{w}/{folder}')
     found = [copy_volume(sample, f'{w}/{base}') for sample, base in (
         ('mb_prot', 'b/one'), ('re_nuc0', 'b/one'), ('re_nuc0', 'a/deep/er/two'), ('mb_prot', 'a.d/three'), ('mb_prot', 'top'),
-        ('mb_prot', '.hidden/four'))]
+        ('mb_prot', '.hidden/four'), ('mb_prot', 'a.d/'))]
     for name in ('b/notes', 'b/x.pin.old', 'a/pin', 'empty/lone.psq'):
         write(f'{w}/{name}', b'')
     os.symlink('../a', f'{w}/b/link')
@@ -87,7 +87,8 @@ def test_lists():
     count(len(done.lines()) == 3, 'and a directory', done)
     done = run('gullcheck', '--files-from', '-', f'{v}/mb_protidt', data=good[0].encode())
     count(names_of(done) == [good[0], f'{v}/mb_protidt.pin'], 'names of the list, then words', done)
-    want('an empty list', run('gullcheck', '--files-from', '-'), 2, '', 'gullcheck: -: the list has no name\n')
+    for data in (b'', b'\n', b'\0', b'\0\0'):
+        want(f'an empty list {data}', run('gullcheck', '--files-from', '-', data=data), 2, '', 'gullcheck: -: the list has no name\n')
     want('a list that is not there', run('gullcheck', '--files-from', f'{w}/none'), 2, '', f'{w}/none: No such file or directory\n')
     want('a list that is a directory', run('gullcheck', '--files-from', w), 2, '', 'Is a directory\n')
     many = ''.join(f'{w}/n{k}\n' for k in range(5000))
@@ -112,10 +113,12 @@ def test_usage():
     w = fresh('dashes')
     copy_volume('mb_prot', f'{w}/-x')
     copy_volume('mb_prot', f'{w}/--json')
+    copy_volume('mb_prot', f'{w}/-')
     program = os.path.abspath(os.path.join(BIN, 'gullcheck'))
     for name in ('-x', '--json', '-x.pin'):
         done = run(program, '--', name, cwd=w)
         want(f'-- {name}', done, 0, f'{name.removesuffix(".pin")}.pin: {passed_line("mb_prot")}\n', '')
+    want('a lone - is a name', run(program, '-', cwd=w), 0, f'-.pin: {passed_line("mb_prot")}\n', '')
     want('-x without --', run(program, '-x', cwd=w), 2, '', 'usage: gullcheck')
     want('-- and nothing', run('gullcheck', '--'), 2, '', 'usage: gullcheck')
 
@@ -264,6 +267,17 @@ def test_header(swapped, lent):
          f'{index}: refused 7: offsets break their rules (the index states 1786 bytes for the header file, it has 0)\n', '')
 
 
+def test_guarded(guarded):
+    """The same lines under the compiler's sanitizers, which end a program that reads or writes outside its memory, or leaks."""
+    w, found = tree()
+    write(f'{w}/list', '\0'.join((*found, w, f'{w}/none', *found)).encode())
+    for words in (('--json', '-j', '2', f'{WORK}/damaged'), (f'{w}/top', w, f'{w}/none', f'{w}/none', f'{w}/empty', '', *found),
+                  ('--files-from', f'{w}/list', '--json', '-j', '3'), ('--files-from', f'{w}/nowhere'), (f'{WORK}/unreadable', '--json'),
+                  (f'{w}/b/one.psq', f'{w}/b/one.xyz', f'{w}/b/one.pxy', 'x' * 254), ('--help',), ('-j', '0'), ()):
+        plain, done = run('gullcheck', *words), run(guarded, *words)
+        count((done.status, done.out, done.err) == (plain.status, plain.out, plain.err), f'the sanitizers find nothing: {words[:4]}', done.err)
+
+
 def on_terminal(*words):
     """What a terminal gets, escape sequences made visible."""
     ours, theirs = pty.openpty()
@@ -295,6 +309,7 @@ def test_terminal():
 def test_all():
     swapped = build('swapped', 'gullcheck', '-Wl,--wrap=open,--wrap=read', 'tests/swap.c')
     small = build('small', 'gullcheck', '-DMOST_INPUT=100000')
+    guarded = build('guarded', 'gullcheck', *SANITIZERS)
     lent = build('lent', 'gullcheck', '-Wl,--wrap=gull_check_volume', 'tests/lent.c')
     test_usage()
     test_help()
@@ -306,5 +321,6 @@ def test_all():
     test_jobs(swapped)
     test_limit(small)
     test_header(swapped, lent)
+    test_guarded(guarded)
     test_lines()
     test_terminal()
