@@ -107,6 +107,13 @@ def test_names():
         count(json_of(done)[0].get('file', '').encode('latin-1') == base + b'.psq', f'{name!r} in an error object', done)
 
 
+def test_plain_names():
+    w = fresh('plain')
+    for name in ('!', '~x', 'a~', "it's", '(1)', '#', '$x', '-', '%', '@{}', 'x,y;z'):
+        index = copy_volume('mb_prot', f'{w}/{name}')
+        want(f'the name {name} needs no quotes', run('gullcheck', f'{w}/{name}'), 0, f'{index}: {passed_line("mb_prot")}\n', '')
+
+
 def test_stale_files():
     v, w = SAMPLES, fresh('stale')
     rule = 'refused 7: offsets break their rules'
@@ -126,11 +133,14 @@ def test_stale_files():
     want('a shorter dna file', run('gullcheck', index), 1, f'{index}: {rule} (the index states 2058 bytes for the sequence file, it has 2057)\n')
 
 
+def put(data, place, value):
+    """Bytes with a big-endian number at a place."""
+    return data[:place] + struct.pack('>i', value) + data[place + 4:]
+
+
 def change(index, place, value):
-    """Puts a big-endian number at a place of a file."""
-    data = bytearray(read(index))
-    struct.pack_into('>i', data, place, value)
-    write(index, data)
+    """The same in a file."""
+    write(index, put(read(index), place, value))
 
 
 def test_uncertain():
@@ -147,6 +157,24 @@ def test_uncertain():
     want('and neither is the length: no hint', run('gullcheck', index), 1, f'{index}: {rule}\n', '')
     change(index, start + 8 * n + 4, -5)
     want('a negative last offset: no hint', run('gullcheck', index), 1, f'{index}: {rule}\n', '')
+
+
+def test_index_hints():
+    """1 to 6 are the index; 8 and 9 have no hint."""
+    w = fresh('numbers')
+    whole = read(f'{SAMPLES}/mb_prot.pin')
+    start, n = tables(whole)
+    numbers = {1: whole[:-1], 2: put(whole, 0, 5), 3: put(whole, 4, 2), 4: put(whole, 8, -1), 6: whole + b'\0', 9: put(whole, start - 4, 1501)}
+    for number, data in numbers.items():
+        index = copy_volume('mb_prot', f'{w}/{number}')
+        write(index, data)
+        hint = ' (in the index)' if number <= 6 else ''
+        line = run('gullcheck', index).out.decode()
+        count(line.startswith(f'{index}: refused {number}: ') and line.endswith(hint + '\n') and line.count('(') == (number <= 6),
+              f'the hint of {number}', line)
+    index = copy_volume('mb_prot', f'{w}/8')
+    write(f'{w}/8.psq', b'\1' + read(f'{SAMPLES}/mb_prot.psq')[1:])
+    want('8 has no hint', run('gullcheck', index), 1, f'{index}: refused 8: a protein separator is not NUL\n', '')
 
 
 def test_lead_byte():
@@ -174,6 +202,10 @@ def test_lead_byte():
     index = f'{w}/none.nin'
     write(index, struct.pack('>4i8xi', 4, 0, 0, 8, 0) + bytes(12) + struct.pack('>3i', 0, 1, 1))
     write(f'{w}/none.nsq', b'\0')
+    write(f'{w}/none.nhr', b'')
+    write(f'{w}/none.nhr', b'h')
+    want('a header file where the index states none', run('gullcheck', index), 1,
+         f'{index}: {rule} (the index states 0 bytes for the header file, it has 1; {lead}, without it the volume would be refused 7)\n')
     write(f'{w}/none.nhr', b'')
     want('a lead byte and no sequence', run('gullcheck', index), 1, f'{index}: {rule} ({lead}, without it the volume would pass)\n')
 
@@ -265,7 +297,7 @@ def test_no_rights():
 
 
 def test_all():
-    for test in (test_samples, test_statuses, test_json, test_titles, test_large_title, test_names, test_stale_files, test_uncertain,
-                 test_lead_byte, test_unreadable,
+    for test in (test_samples, test_statuses, test_json, test_titles, test_large_title, test_names, test_plain_names, test_stale_files, test_uncertain,
+                 test_index_hints, test_lead_byte, test_unreadable,
                  test_no_rights, test_damaged):
         test()

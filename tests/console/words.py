@@ -38,6 +38,7 @@ def test_directories():
     done = run('gullcheck', f'{WORK}/linked')
     os.remove(f'{WORK}/linked')
     count(len(names_of(done)) == len(found), 'a name that is a link to a directory is followed', done)
+    want('a directory with one volume', run('gullcheck', f'{w}/.hidden'), 0, f'{w}/.hidden/four.pin: {passed_line("mb_prot")}\n', '')
     none = 'no volume is below this directory, neither .pin nor .nin'
     want('a directory without a volume', run('gullcheck', f'{w}/empty'), 2, '', f'gullcheck: {w}/empty: {none}\n')
     want('beside one with', run('gullcheck', '--quiet', f'{w}/b', f'{w}/empty'), 2, '', f'{w}/empty: {none}\n')
@@ -108,7 +109,7 @@ def test_usage():
     first = run('gullcheck', '--json', '--quiet', '-j', '2', v, bad)
     for words in ((v, '--json', bad, '--quiet', '-j', '2'), (v, bad, '-j2', '--quiet', '--json'), (v, '--quiet', '--json', '--', bad)):
         want(f'options behind names {words}', run('gullcheck', *words), 1, first.out, '')
-    for words in (('-j', '1'), ('-j256',), ('--json', '-j', '2', '--quiet')):
+    for words in (('-j', '1'), ('-j', '10'), ('-j256',), ('--json', '-j', '2', '--quiet')):
         want(f'good usage {words}', run('gullcheck', '--quiet', *words, v), 0, '', '')
     w = fresh('dashes')
     copy_volume('mb_prot', f'{w}/-x')
