@@ -128,6 +128,10 @@ def test_stale_files():
     write(f'{w}/s.psq', read(f'{v}/mb_prot.psq'))
     done = run('gullcheck', '--json', index)
     count(json_of(done)[0].get('hint') == 'the index states 1119 bytes for the header file, it has 1118', 'the hint in JSON', done)
+    start, n = tables(read(index))
+    change(index, start + 4 * n, 0x01020304)
+    want('a large number is stated', run('gullcheck', index), 1,
+         f'{index}: {rule} (the index states 16909060 bytes for the header file, it has 1118)\n', '')
     index = copy_volume('re_nuc0', f'{w}/d')
     write(f'{w}/d.nsq', read(f'{v}/re_nuc0.nsq')[:-1])
     want('a shorter dna file', run('gullcheck', index), 1, f'{index}: {rule} (the index states 2058 bytes for the sequence file, it has 2057)\n')
@@ -203,6 +207,10 @@ def test_lead_byte():
     write(index, struct.pack('>4i8xi', 4, 0, 0, 8, 0) + bytes(12) + struct.pack('>3i', 0, 1, 1))
     write(f'{w}/none.nsq', b'\0')
     write(f'{w}/none.nhr', b'')
+    whole = read(index)
+    write(index, put(whole[:16] + whole[24:], 12, 0))
+    want('and an empty timestamp', run('gullcheck', index), 1, f'{index}: {rule} ({lead}, without it the volume would pass)\n')
+    write(index, whole)
     write(f'{w}/none.nhr', b'h')
     want('a header file where the index states none', run('gullcheck', index), 1,
          f'{index}: {rule} (the index states 0 bytes for the header file, it has 1; {lead}, without it the volume would be refused 7)\n')

@@ -102,7 +102,9 @@ def test_usage():
     for words in ((), ('--json',), ('--jsn', v), ('-j', '0', v), ('-j', '257', v), ('-j', 'x', v), ('-j', '', v),
                   ('-j', '99999999999999999999', v), ('-j',),
                   ('--files-from',), ('--files-from', '-', '--files-from', '-'), ('-x', v), ('--jsonx', v)):
-        want(f'wrong usage {words}', run('gullcheck', *words), 2, '', 'usage: gullcheck')
+        done = run('gullcheck', *words)
+        want(f'wrong usage {words}', done, 2, '', 'usage: gullcheck')
+        count(done.err.endswith(b'] NAME..\ngullcheck --help tells more.\n'), f'{words}: it says where more is told', done)
     want('an option with ESC', run('gullcheck', '-\x1b[2J'), 2, '', r'"-\x1b[2J"')
     want('the option is told, not its value', run('gullcheck', '-j', '0', v), 2, '', 'wrong or incomplete option -j\n')
     bad = f'{SAMPLES}/re_nuc04'
@@ -263,6 +265,13 @@ def test_header(swapped, lent):
     os.truncate(f'{w}/v.nhr', 100000000)
     want('also of a large header file', run(lent, index), 1,
          f'{index}: refused 7: offsets break their rules (the index states 1786 bytes for the header file, it has 100000000)\n', '')
+    more = fresh('headers')
+    for k in range(4):
+        copy_volume('re_nuc0', f'{more}/{k}')
+        os.truncate(f'{more}/{k}.nhr', 100000000)
+    tight = {'preexec_fn': lambda: resource.setrlimit(resource.RLIMIT_AS, (256 << 20, 256 << 20))}
+    done = run('gullcheck', more, **tight)
+    count(done.status == 1 and len(done.lines()) == 4 and not done.err, 'a range is given back behind its volume', done)
     os.truncate(f'{w}/v.nhr', 0)
     want('and of an empty one', run(lent, index), 1,
          f'{index}: refused 7: offsets break their rules (the index states 1786 bytes for the header file, it has 0)\n', '')
