@@ -167,7 +167,7 @@ def test_unknown_letters():
 def test_usage():
     for program in ('gullpack', 'gullunpack'):
         for words in ((), ('protein',), ('-1',), ('dna', 'dna'), ('0', 'dna'), ('--leters', 'dna'), ('--letters',), ('4294967296',), ('2x',), ('',),
-                      (' 2',), ('--', '--letters')):
+                      (' 2',), ('--', '--letters'), ('--', '--letters', 'dna'), ('--', '--help')):
             want(f'{program} {words}', run(program, *words), 2, b'', f'usage: {program}')
     want('--', run('gullpack', '--', 'dna'), 0, b'\xff\xff\xff\xff', '')
     for word in ('1', 'rna', '2', 'dna'):

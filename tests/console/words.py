@@ -62,6 +62,9 @@ def test_once():
     for word, index in (('one.psq', 'one.pin'), ('one.nhr', 'one.nin'), ('one.psd', 'one.pin')):
         want(f'{word} names its volume', run('gullcheck', '--quiet', f'{w}/b/{word}'), 0, '', '')
         count(names_of(run('gullcheck', f'{w}/b/{word}')) == [f'{w}/b/{index}'], f'{word} names {index}')
+    for word in ('.pin', '.phr'):
+        want(f'{word} without a base name', run(os.path.abspath(os.path.join(BIN, 'gullcheck')), word, cwd=f'{w}/a.d'), 0,
+             f'.pin: {passed_line("mb_prot")}\n', '')
     want('a file that is none', run('gullcheck', f'{w}/b/notes'), 2, '', 'there is no index')
     want('a lone sequence file', run('gullcheck', f'{w}/empty/lone.psq'), 2, '', f'{w}/empty/lone.pin: No such file or directory')
     done = run('gullcheck', f'{w}/top', w, f'{w}/top.pin', f'{w}/b')
@@ -282,7 +285,7 @@ def test_guarded(guarded):
     w, found = tree()
     write(f'{w}/list', '\0'.join((*found, w, f'{w}/none', *found)).encode())
     for words in (('--json', '-j', '2', f'{WORK}/damaged'), (f'{w}/top', w, f'{w}/none', f'{w}/none', f'{w}/empty', '', *found),
-                  ('--files-from', f'{w}/list', '--json', '-j', '3'), ('--files-from', f'{w}/nowhere'), (f'{WORK}/unreadable', '--json'),
+                  ('--files-from', f'{w}/list', '--json', '-j', '3'), ('--files-from', f'{w}/nowhere'), ('--files-from', w), (f'{WORK}/unreadable', '--json'),
                   (f'{w}/b/one.psq', f'{w}/b/one.xyz', f'{w}/b/one.pxy', 'x' * 254), ('--help',), ('-j', '0'), ()):
         plain, done = run('gullcheck', *words), run(guarded, *words)
         count((done.status, done.out, done.err) == (plain.status, plain.out, plain.err), f'the sanitizers find nothing: {words[:4]}', done.err)
