@@ -201,6 +201,9 @@ def test_jobs(swapped):
     wait = f'for k in 1 2 3 4 5 6 7 8 9 10 11 12 13 14 15 16 17 18 19 20; do test -e {w}/met && exit 0; sleep 0.1; done; exit 1'
     done = run(swapped, '-j', '2', a, b, env={'AT_OPEN_1': wait, 'AT_OPEN_2': f'touch {w}/met', 'PATH': os.environ['PATH']})
     want('two volumes side by side', done, 0, f'{a}: {passed_line("mb_prot")}\n{b}: {passed_line("mb_prot")}\n', '')
+    os.remove(f'{w}/met')
+    alone = {'AT_OPEN_1': f'sleep 0.3; test ! -e {w}/met', 'AT_OPEN_2': f'touch {w}/met', 'PATH': os.environ['PATH']}
+    want('no more than -j says', run(swapped, '-j', '1', a, b, env=alone), 0, told='')
     with open(f'{w}/out', 'wb') as out:
         done = run(swapped, a, b, stdout=out, env={'AT_OPEN_4': f'test "$(grep -c passed {w}/out)" = 1', 'PATH': os.environ['PATH']})
     want('a line is written when its volume is done', done, 0, told='')
