@@ -90,7 +90,7 @@ test:
 edits:
 	tests/edits/try
 
-wrong: lib
+wrong: build/proved programs
 	tests/wrong/try
 
 build/bench/bench: $(wildcard bench/*.c bench/*.h) include/gullcordage.h build/libgullcordage.a build/libtiming.a

@@ -1,7 +1,9 @@
 /* What the programs share: answers, writing, help and usage. */
+#define _GNU_SOURCE
 #include "gull.h"
 
 #include <errno.h>
+#include <stdio.h>
 #include <stdlib.h>
 #include <string.h>
 #include <unistd.h>
@@ -37,10 +39,9 @@ uint64_t gull_result(const uint8_t *results, size_t k)
 
 void *gull_memory(void *at, size_t len)
 {
-    static const char words[] = "no memory\n";
     void *more = realloc(at, len ? len : 1);
     if (!more) {
-        gull_write(STDERR_FILENO, words, sizeof words - 1);
+        dprintf(STDERR_FILENO, "%s: no memory\n", program_invocation_short_name);
         _exit(EXIT_TROUBLE);
     }
     return more;

@@ -40,7 +40,7 @@ const char *gull_meaning(uint32_t number);
 /* The eight-byte little-endian number at place k of results. */
 uint64_t gull_result(const uint8_t *results, size_t k);
 
-/* Memory for `len` bytes, the old ones kept. Without memory the program ends. */
+/* Memory for `len` bytes, the old ones kept. Without memory the program tells so and ends. */
 void *gull_memory(void *at, size_t len);
 
 /* Writes all bytes. Returns 0, or -1 with errno set. */

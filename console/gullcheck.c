@@ -27,6 +27,7 @@ static const char *const help[] = {
     "  --files-from FILE  names from a file, - for standard input: separated by NUL where it has one, else by line feed\n"
     "  --help             this text\n"
     "  --version          the version\n"
+    "  --                 every word behind it is a name; before it options may stand between names\n"
     "\n",
     "Numbers:\n"
     "  1   the index ends too early: it was cut, or is still being written. Fetch or build the volume again\n"
@@ -101,30 +102,46 @@ static int take_option(char ***word, struct options *o)
     return 1;
 }
 
+/* Takes the options out of the words, wherever they stand before `--`; the names are left, in their order. Returns -1, or the exit
+ * status where the program ends with that. */
+static int take_options(char **word, struct options *o)
+{
+    char **name = word;
+    int ended = 0;
+    for (; *word; word++) {
+        char *option = *word;
+        if (ended || option[0] != '-' || option[1] == 0) {
+            *name++ = option;
+            continue;
+        }
+        int told = gull_told(&gullcheck, option);
+        if (told >= 0)
+            return told;
+        if (strcmp(option, "--") == 0)
+            ended = 1;
+        else if (!take_option(&word, o))
+            return gull_misused(&gullcheck, "wrong or incomplete option", option);
+    }
+    *name = NULL;
+    return -1;
+}
+
 int main(int argc, char **argv)
 {
     struct options o = {{0, 0}, 1, NULL};
-    char **word = argv + (argc > 0);
-    for (; *word && (*word)[0] == '-' && (*word)[1]; word++) {
-        int told = gull_told(&gullcheck, *word);
-        if (told >= 0)
-            return told;
-        if (strcmp(*word, "--") == 0) {
-            word++;
-            break;
-        }
-        if (!take_option(&word, &o))
-            return gull_misused(&gullcheck, "wrong or incomplete option", *word);
-    }
-    if (!*word && !o.list)
+    char **name = argv + (argc > 0);
+    int status = take_options(name, &o);
+    if (status >= 0)
+        return status;
+    if (!*name && !o.list)
         return gull_misused(&gullcheck, NULL, NULL);
     struct tasks all = {0};
     if (o.list)
         tasks_add_list(&all, o.list);
-    for (; *word; word++)
-        tasks_add(&all, *word);
+    for (; *name; name++)
+        tasks_add(&all, *name);
     tasks_once(&all);
-    int status = check_all(&gullcheck, o.form, &all, o.jobs);
+    status = check_all(&gullcheck, o.form, &all, o.jobs);
     tasks_free(&all);
     return status;
 }

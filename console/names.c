@@ -129,7 +129,7 @@ static const char *index_ending(const char *name)
     static const char *const endings[][2] = {{".pin", ".pin"}, {".psq", ".pin"}, {".phr", ".pin"},
                                              {".nin", ".nin"}, {".nsq", ".nin"}, {".nhr", ".nin"}};
     size_t len = strlen(name);
-    for (size_t k = 0; len > 4 && k < sizeof endings / sizeof *endings; k++)
+    for (size_t k = 0; len >= 4 && k < sizeof endings / sizeof *endings; k++)
         if (strcmp(name + len - 4, endings[k][0]) == 0)
             return endings[k][1];
     return NULL;

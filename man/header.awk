@@ -48,5 +48,5 @@ in_comment {
 { code($0) }
 END {
     end_code()
-    print ".SH SEE ALSO\n.BR gullcheck (1),\n.BR gullpack (1),\n.BR gullunpack (1)"
+    print ".SH SEE ALSO\n.BR gullcheck (1),\n.BR gullpack (1),\n.BR gullunpack (1),\n.BR gulllist (1)"
 }

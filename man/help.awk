@@ -42,5 +42,8 @@ NR == 3 {
 }
 END {
     heading("see also")
-    print ".BR gullcheck (1),\n.BR gullpack (1),\n.BR gullunpack (1),\n.BR gulllist (1),\n.BR gullcordage (3)"
+    split("gullcheck gullpack gullunpack gulllist", other, " ")
+    for (k = 1; k in other; k++)
+        if (other[k] != name) printf ".BR %s (1),\n", other[k]
+    print ".BR gullcordage (3)"
 }

@@ -1,5 +1,6 @@
-"""What the documents show is what the programs write: every block of README.md and docs/CASES.md that begins with `$`."""
-import os, re, subprocess
+"""What the documents show is what the programs write: every block of README.md and docs/CASES.md that begins with `$`. What README's tables
+name is there."""
+import glob, os, re, subprocess
 
 from trial import *
 
@@ -33,6 +34,36 @@ def test_numbers():
     count(told - {0} == shown, 'the numbers of README and of --help', f'{told} {shown}')
 
 
+def rows(heading):
+    """The rows of the table behind a heading of README.md, cell by cell, without its head."""
+    text = open('README.md', encoding='utf-8').read().split(f'\n## {heading}\n')[1].split('\n## ')[0]
+    lines = [line for line in text.split('\n') if line.startswith('|')]
+    return [[cell.strip() for cell in line.strip('|').split('|')] for line in lines[2:]]
+
+
+def is_callable(name):
+    """A program, a function of the header, or a public function of a crate."""
+    if '::' in name:
+        crate, function = name.split('::')
+        return any(f'pub fn {function}(' in re.sub(r"<'\w+>", '', open(path, encoding='utf-8').read())
+                   for path in glob.glob(f'crates/{crate}/src/*.rt'))
+    if name.startswith('gull_'):
+        return f'uint32_t {name}(' in open(f'{SOURCE}/include/gullcordage.h', encoding='utf-8').read()
+    return os.access(f'build/bin/{name}', os.X_OK)
+
+
+def test_tables():
+    for what, *names in rows('What can be called from where'):
+        for name in re.findall('`([^`]+)`', ' '.join(names)):
+            count(is_callable(name), f'README: {what}: {name} can be called')
+    places = [place for row in rows('The map') for place in re.findall('`([^`]+)`', row[0])]
+    for place in places:
+        count(os.path.exists(place), f'README: {place} is there')
+    crates = {f'crates/{line.split(":")[0].strip()}' for line in open('crates.txt', encoding='utf-8') if line.strip() and line[0] != '#'}
+    count(crates <= set(places), 'README has every crate', crates - set(places))
+
+
 def test_all():
     test_examples()
     test_numbers()
+    test_tables()

@@ -96,8 +96,12 @@ def test_limit():
         with open(f'{w}/sparse', 'rb') as file:
             file.seek(1)
             want(f'{program} without memory', run(program, 'dna', stdin=file, **tight), 2, b'', 'Cannot allocate memory\n')
+    for program, size in (('gullpack', 200000000), ('gullunpack', 80000000)):
+        os.truncate(f'{w}/sparse', size)
+        with open(f'{w}/sparse', 'rb') as file:
+            want(f'{program} without memory for its output', run(program, 'dna', stdin=file, **tight), 2, b'', f'{program}: no memory\n')
     os.remove(f'{w}/sparse')
-    small = build('small-pack', 'gullpack', ['-DMOST_INPUT=100000'])
+    small = build('small-pack', 'gullpack', '-DMOST_INPUT=100000')
     full = bytes(100000)
     want('a pipe at the limit', run(small, 'dna', data=full), 0, own('pack', 2, full), '')
     want('a pipe a byte over it', run(small, 'dna', data=full + b'\0'), 1, b'', 'refused 22')
@@ -131,6 +135,23 @@ def test_letters():
     want('T and U of amino', run('gullpack', '--letters', 'amino', data=b'TU'), 0, own('pack', 3, bytes([16, 25])), '')
 
 
+def test_guarded():
+    """The same output under the compiler's sanitizers, which end a program that reads or writes outside its memory, or leaks."""
+    chance = random.Random(10)
+    pack, unpack = build('guarded-pack', 'gullpack', *SANITIZERS), build('guarded-unpack', 'gullunpack', *SANITIZERS)
+    for alphabet, letters in ((2, NUCLEIC), (3, AMINO)):
+        for size in (0, 1, 6, 15, 90, 70000):
+            data = codes(alphabet, size, chance, size % 15 == 0)
+            text, packets = ''.join(letters[c] for c in data).encode(), own('pack', alphabet, data)
+            want(f'gullpack on {size} codes', run(pack, str(alphabet), data=data), 0, packets, '')
+            want(f'gullpack on {size} letters', run(pack, '--letters', str(alphabet), data=text), 0, packets, '')
+            want(f'gullunpack of {size} codes', run(unpack, str(alphabet), data=packets), 0, data, '')
+            want(f'gullunpack of {size} letters', run(unpack, '--letters', str(alphabet), data=packets), 0, text + b'\n', '')
+        every = bytes(range(256))
+        want('every byte as a letter', run(pack, '--letters', str(alphabet), data=every), 1, b'', r'("\x00" at line 1, column 1 is no residue)')
+        want('every byte as a packet', run(unpack, str(alphabet), data=every), 1, b'', 'refused 17')
+
+
 def test_unknown_letters():
     told = 'refused 18: a residue code is not valid'
     for text, word, shown in ((b'ACGJ', 'dna', '"J" at line 1, column 4'), (b'AC\nGT\n\n A?T!', 'dna', '"?" at line 4, column 3'),
@@ -145,8 +166,8 @@ def test_unknown_letters():
 
 def test_usage():
     for program in ('gullpack', 'gullunpack'):
-        for words in ((), ('protein',), ('-1',), ('dna', 'dna'), ('--leters', 'dna'), ('--letters',), ('4294967296',), ('2x',), ('',),
-                      (' 2',), ('--', '--letters')):
+        for words in ((), ('protein',), ('-1',), ('dna', 'dna'), ('0', 'dna'), ('--leters', 'dna'), ('--letters',), ('4294967296',), ('2x',), ('',),
+                      (' 2',), ('--', '--letters'), ('--', '--letters', 'dna'), ('--', '--help')):
             want(f'{program} {words}', run(program, *words), 2, b'', f'usage: {program}')
     want('--', run('gullpack', '--', 'dna'), 0, b'\xff\xff\xff\xff', '')
     for word in ('1', 'rna', '2', 'dna'):
@@ -158,5 +179,5 @@ def test_usage():
 
 
 def test_all():
-    for test in (test_usage, test_refusals, test_letters, test_unknown_letters, test_inputs, test_limit, test_sizes):
+    for test in (test_usage, test_refusals, test_letters, test_guarded, test_unknown_letters, test_inputs, test_limit, test_sizes):
         test()

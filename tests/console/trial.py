@@ -10,6 +10,9 @@ WORK = os.environ.get('GULL_WORK', 'build/test-programs')
 LIBRARY = 'build/libgullcordage.a'
 SAMPLES = 'samples/volumes'
 PATIENCE = 10
+PARTS = {'gullcheck': ('gullcheck', 'report', 'names', 'volume', 'hint', 'jobs'), 'gullpack': ('gullpack', 'convert', 'letters'),
+         'gullunpack': ('gullunpack', 'convert', 'letters')}
+SANITIZERS = ('-g', '-fsanitize=address,undefined', '-fno-sanitize-recover')
 
 passed = failed = 0
 
@@ -104,15 +107,23 @@ def tables(index):
     return 32 + title + stamp, struct.unpack_from('>i', index, 16 + title + stamp)[0]
 
 
-def build(name, program, flags, *more):
-    """Another build of a program, with flags and more files; its path."""
-    parts = {'gullcheck': ('gullcheck', 'report', 'names', 'volume', 'hint', 'jobs'),
-             'gullpack': ('gullpack', 'convert', 'letters'), 'gullunpack': ('gullunpack', 'convert', 'letters')}[program]
-    sources = [f'{SOURCE}/console/{part}.c' for part in (*parts, 'gull', 'text', 'input')]
+def command(program, tree, path, *more):
+    """The command that builds a program of a tree, with more flags and files."""
+    sources = [f'{tree}/console/{part}.c' for part in (*PARTS[program], 'gull', 'text', 'input')]
+    return ['gcc', '-std=c99', '-O1', '-o', path, *sources, *more, LIBRARY, '-pthread']
+
+
+def build(name, program, *more):
+    """Another build of a program, with flags or more files; its path."""
     path = os.path.join(WORK, name)
-    subprocess.run(['gcc', '-std=c99', '-O1', *flags, '-o', path, *sources, *more, LIBRARY, '-pthread'],
-                   check=True)
+    subprocess.run(command(program, SOURCE, path, *more), check=True)
     return path
+
+
+def build_second():
+    """The second program, which the programs' output is held against."""
+    os.environ.setdefault('CARGO_HOME', os.path.abspath('second/target/cargo-home'))
+    subprocess.run(['cargo', 'build', '--offline', '--release', '--quiet'], cwd='second', check=True)
 
 
 def as_nobody(*words):

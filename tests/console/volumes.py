@@ -21,6 +21,9 @@ def test_samples():
     want('--quiet', run('gullcheck', '--quiet', f'{v}/mb_prot', f'{v}/mb_protidt', f'{v}/re_nuc0'), 0, '', '')
     want('a refusal', run('gullcheck', f'{v}/re_nuc04'), 1, f"{v}/re_nuc04.nin: refused 5: the timestamp's end is misaligned (in the index)\n", '')
     want('a file is missing', run('gullcheck', f'{v}/fd_v3'), 2, '', 'fd_v3.nsq: No such file or directory')
+    want('an index is missing', run('gullcheck', f'{v}/none.pin'), 2, '', f'gullcheck: {v}/none.pin: No such file or directory\n')
+    want('standard input is closed', run('/bin/sh', '-c', f'{os.path.join(BIN, "gullcheck")} {v}/mb_prot <&-'), 0,
+         f'{v}/mb_prot.pin: {passed_line("mb_prot")}\n', '')
     want('nothing of that name', run('gullcheck', f'{v}/none'), 2, '', f'gullcheck: {v}/none: there is no index, neither .pin nor .nin\n')
 
 
@@ -104,6 +107,13 @@ def test_names():
         count(json_of(done)[0].get('file', '').encode('latin-1') == base + b'.psq', f'{name!r} in an error object', done)
 
 
+def test_plain_names():
+    w = fresh('plain')
+    for name in ('!', '~x', 'a~', "it's", '(1)', '#', '$x', '-', '%', '@{}', 'x,y;z'):
+        index = copy_volume('mb_prot', f'{w}/{name}')
+        want(f'the name {name} needs no quotes', run('gullcheck', f'{w}/{name}'), 0, f'{index}: {passed_line("mb_prot")}\n', '')
+
+
 def test_stale_files():
     v, w = SAMPLES, fresh('stale')
     rule = 'refused 7: offsets break their rules'
@@ -118,16 +128,23 @@ def test_stale_files():
     write(f'{w}/s.psq', read(f'{v}/mb_prot.psq'))
     done = run('gullcheck', '--json', index)
     count(json_of(done)[0].get('hint') == 'the index states 1119 bytes for the header file, it has 1118', 'the hint in JSON', done)
+    start, n = tables(read(index))
+    change(index, start + 4 * n, 0x01020304)
+    want('a large number is stated', run('gullcheck', index), 1,
+         f'{index}: {rule} (the index states 16909060 bytes for the header file, it has 1118)\n', '')
     index = copy_volume('re_nuc0', f'{w}/d')
     write(f'{w}/d.nsq', read(f'{v}/re_nuc0.nsq')[:-1])
     want('a shorter dna file', run('gullcheck', index), 1, f'{index}: {rule} (the index states 2058 bytes for the sequence file, it has 2057)\n')
 
 
+def put(data, place, value):
+    """Bytes with a big-endian number at a place."""
+    return data[:place] + struct.pack('>i', value) + data[place + 4:]
+
+
 def change(index, place, value):
-    """Puts a big-endian number at a place of a file."""
-    data = bytearray(read(index))
-    struct.pack_into('>i', data, place, value)
-    write(index, data)
+    """The same in a file."""
+    write(index, put(read(index), place, value))
 
 
 def test_uncertain():
@@ -144,6 +161,24 @@ def test_uncertain():
     want('and neither is the length: no hint', run('gullcheck', index), 1, f'{index}: {rule}\n', '')
     change(index, start + 8 * n + 4, -5)
     want('a negative last offset: no hint', run('gullcheck', index), 1, f'{index}: {rule}\n', '')
+
+
+def test_index_hints():
+    """1 to 6 are the index; 8 and 9 have no hint."""
+    w = fresh('numbers')
+    whole = read(f'{SAMPLES}/mb_prot.pin')
+    start, n = tables(whole)
+    numbers = {1: whole[:-1], 2: put(whole, 0, 5), 3: put(whole, 4, 2), 4: put(whole, 8, -1), 6: whole + b'\0', 9: put(whole, start - 4, 1501)}
+    for number, data in numbers.items():
+        index = copy_volume('mb_prot', f'{w}/{number}')
+        write(index, data)
+        hint = ' (in the index)' if number <= 6 else ''
+        line = run('gullcheck', index).out.decode()
+        count(line.startswith(f'{index}: refused {number}: ') and line.endswith(hint + '\n') and line.count('(') == (number <= 6),
+              f'the hint of {number}', line)
+    index = copy_volume('mb_prot', f'{w}/8')
+    write(f'{w}/8.psq', b'\1' + read(f'{SAMPLES}/mb_prot.psq')[1:])
+    want('8 has no hint', run('gullcheck', index), 1, f'{index}: refused 8: a protein separator is not NUL\n', '')
 
 
 def test_lead_byte():
@@ -171,6 +206,14 @@ def test_lead_byte():
     index = f'{w}/none.nin'
     write(index, struct.pack('>4i8xi', 4, 0, 0, 8, 0) + bytes(12) + struct.pack('>3i', 0, 1, 1))
     write(f'{w}/none.nsq', b'\0')
+    write(f'{w}/none.nhr', b'')
+    whole = read(index)
+    write(index, put(whole[:16] + whole[24:], 12, 0))
+    want('and an empty timestamp', run('gullcheck', index), 1, f'{index}: {rule} ({lead}, without it the volume would pass)\n')
+    write(index, whole)
+    write(f'{w}/none.nhr', b'h')
+    want('a header file where the index states none', run('gullcheck', index), 1,
+         f'{index}: {rule} (the index states 0 bytes for the header file, it has 1; {lead}, without it the volume would be refused 7)\n')
     write(f'{w}/none.nhr', b'')
     want('a lead byte and no sequence', run('gullcheck', index), 1, f'{index}: {rule} ({lead}, without it the volume would pass)\n')
 
@@ -229,7 +272,7 @@ def test_unreadable():
     want('a name that is a dangling link', run('gullcheck', f'{w}/word'), 2, '', f'{w}/word: a link to a file that is not there\n')
     os.symlink('loop', f'{w}/loop')
     want('a name that is a loop of links', run('gullcheck', f'{w}/loop'), 2, '', f'{w}/loop: Too many levels of symbolic links\n')
-    want('an empty name', run('gullcheck', ''), 2, '', 'an empty name')
+    want('an empty name', run('gullcheck', ''), 2, '', 'gullcheck: "": an empty name\n')
     want('a name through a file', run('gullcheck', f'{SAMPLES}/mb_prot.pin/x'), 2, '', 'Not a directory')
     want('a name that is too long', run('gullcheck', 'x' * 5000), 2, '', 'File name too long')
     want('a name that is too long with its ending', run('gullcheck', 'x' * 254), 2, '', 'File name too long')
@@ -262,7 +305,7 @@ def test_no_rights():
 
 
 def test_all():
-    for test in (test_samples, test_statuses, test_json, test_titles, test_large_title, test_names, test_stale_files, test_uncertain,
-                 test_lead_byte, test_unreadable,
+    for test in (test_samples, test_statuses, test_json, test_titles, test_large_title, test_names, test_plain_names, test_stale_files, test_uncertain,
+                 test_index_hints, test_lead_byte, test_unreadable,
                  test_no_rights, test_damaged):
         test()

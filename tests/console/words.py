@@ -16,7 +16,7 @@ def tree():
         os.makedirs(f'{w}/{folder}')
     found = [copy_volume(sample, f'{w}/{base}') for sample, base in (
         ('mb_prot', 'b/one'), ('re_nuc0', 'b/one'), ('re_nuc0', 'a/deep/er/two'), ('mb_prot', 'a.d/three'), ('mb_prot', 'top'),
-        ('mb_prot', '.hidden/four'))]
+        ('mb_prot', '.hidden/four'), ('mb_prot', 'a.d/'))]
     for name in ('b/notes', 'b/x.pin.old', 'a/pin', 'empty/lone.psq'):
         write(f'{w}/{name}', b'')
     os.symlink('../a', f'{w}/b/link')
@@ -38,6 +38,7 @@ def test_directories():
     done = run('gullcheck', f'{WORK}/linked')
     os.remove(f'{WORK}/linked')
     count(len(names_of(done)) == len(found), 'a name that is a link to a directory is followed', done)
+    want('a directory with one volume', run('gullcheck', f'{w}/.hidden'), 0, f'{w}/.hidden/four.pin: {passed_line("mb_prot")}\n', '')
     none = 'no volume is below this directory, neither .pin nor .nin'
     want('a directory without a volume', run('gullcheck', f'{w}/empty'), 2, '', f'gullcheck: {w}/empty: {none}\n')
     want('beside one with', run('gullcheck', '--quiet', f'{w}/b', f'{w}/empty'), 2, '', f'{w}/empty: {none}\n')
@@ -61,6 +62,9 @@ def test_once():
     for word, index in (('one.psq', 'one.pin'), ('one.nhr', 'one.nin'), ('one.psd', 'one.pin')):
         want(f'{word} names its volume', run('gullcheck', '--quiet', f'{w}/b/{word}'), 0, '', '')
         count(names_of(run('gullcheck', f'{w}/b/{word}')) == [f'{w}/b/{index}'], f'{word} names {index}')
+    for word in ('.pin', '.phr'):
+        want(f'{word} without a base name', run(os.path.abspath(os.path.join(BIN, 'gullcheck')), word, cwd=f'{w}/a.d'), 0,
+             f'.pin: {passed_line("mb_prot")}\n', '')
     want('a file that is none', run('gullcheck', f'{w}/b/notes'), 2, '', 'there is no index')
     want('a lone sequence file', run('gullcheck', f'{w}/empty/lone.psq'), 2, '', f'{w}/empty/lone.pin: No such file or directory')
     done = run('gullcheck', f'{w}/top', w, f'{w}/top.pin', f'{w}/b')
@@ -87,7 +91,8 @@ def test_lists():
     count(len(done.lines()) == 3, 'and a directory', done)
     done = run('gullcheck', '--files-from', '-', f'{v}/mb_protidt', data=good[0].encode())
     count(names_of(done) == [good[0], f'{v}/mb_protidt.pin'], 'names of the list, then words', done)
-    want('an empty list', run('gullcheck', '--files-from', '-'), 2, '', 'gullcheck: -: the list has no name\n')
+    for data in (b'', b'\n', b'\0', b'\0\0'):
+        want(f'an empty list {data}', run('gullcheck', '--files-from', '-', data=data), 2, '', 'gullcheck: -: the list has no name\n')
     want('a list that is not there', run('gullcheck', '--files-from', f'{w}/none'), 2, '', f'{w}/none: No such file or directory\n')
     want('a list that is a directory', run('gullcheck', '--files-from', w), 2, '', 'Is a directory\n')
     many = ''.join(f'{w}/n{k}\n' for k in range(5000))
@@ -100,17 +105,26 @@ def test_usage():
     for words in ((), ('--json',), ('--jsn', v), ('-j', '0', v), ('-j', '257', v), ('-j', 'x', v), ('-j', '', v),
                   ('-j', '99999999999999999999', v), ('-j',),
                   ('--files-from',), ('--files-from', '-', '--files-from', '-'), ('-x', v), ('--jsonx', v)):
-        want(f'wrong usage {words}', run('gullcheck', *words), 2, '', 'usage: gullcheck')
+        done = run('gullcheck', *words)
+        want(f'wrong usage {words}', done, 2, '', 'usage: gullcheck')
+        count(done.err.endswith(b'] NAME..\ngullcheck --help tells more.\n'), f'{words}: it says where more is told', done)
     want('an option with ESC', run('gullcheck', '-\x1b[2J'), 2, '', r'"-\x1b[2J"')
-    for words in (('-j', '1'), ('-j256',), ('--json', '-j', '2', '--quiet')):
+    want('the option is told, not its value', run('gullcheck', '-j', '0', v), 2, '', 'wrong or incomplete option -j\n')
+    bad = f'{SAMPLES}/re_nuc04'
+    first = run('gullcheck', '--json', '--quiet', '-j', '2', v, bad)
+    for words in ((v, '--json', bad, '--quiet', '-j', '2'), (v, bad, '-j2', '--quiet', '--json'), (v, '--quiet', '--json', '--', bad)):
+        want(f'options behind names {words}', run('gullcheck', *words), 1, first.out, '')
+    for words in (('-j', '1'), ('-j', '10'), ('-j256',), ('--json', '-j', '2', '--quiet')):
         want(f'good usage {words}', run('gullcheck', '--quiet', *words, v), 0, '', '')
     w = fresh('dashes')
     copy_volume('mb_prot', f'{w}/-x')
     copy_volume('mb_prot', f'{w}/--json')
+    copy_volume('mb_prot', f'{w}/-')
     program = os.path.abspath(os.path.join(BIN, 'gullcheck'))
     for name in ('-x', '--json', '-x.pin'):
         done = run(program, '--', name, cwd=w)
         want(f'-- {name}', done, 0, f'{name.removesuffix(".pin")}.pin: {passed_line("mb_prot")}\n', '')
+    want('a lone - is a name', run(program, '-', cwd=w), 0, f'-.pin: {passed_line("mb_prot")}\n', '')
     want('-x without --', run(program, '-x', cwd=w), 2, '', 'usage: gullcheck')
     want('-- and nothing', run('gullcheck', '--'), 2, '', 'usage: gullcheck')
 
@@ -187,6 +201,9 @@ def test_jobs(swapped):
     wait = f'for k in 1 2 3 4 5 6 7 8 9 10 11 12 13 14 15 16 17 18 19 20; do test -e {w}/met && exit 0; sleep 0.1; done; exit 1'
     done = run(swapped, '-j', '2', a, b, env={'AT_OPEN_1': wait, 'AT_OPEN_2': f'touch {w}/met', 'PATH': os.environ['PATH']})
     want('two volumes side by side', done, 0, f'{a}: {passed_line("mb_prot")}\n{b}: {passed_line("mb_prot")}\n', '')
+    os.remove(f'{w}/met')
+    alone = {'AT_OPEN_1': f'sleep 0.3; test ! -e {w}/met', 'AT_OPEN_2': f'touch {w}/met', 'PATH': os.environ['PATH']}
+    want('no more than -j says', run(swapped, '-j', '1', a, b, env=alone), 0, told='')
     with open(f'{w}/out', 'wb') as out:
         done = run(swapped, a, b, stdout=out, env={'AT_OPEN_4': f'test "$(grep -c passed {w}/out)" = 1', 'PATH': os.environ['PATH']})
     want('a line is written when its volume is done', done, 0, told='')
@@ -240,6 +257,43 @@ def test_limit(small):
     want('a byte over it is 22', run(small, index), 1, f'{index}: refused 22: an input is over 2,147,483,647 bytes (the header file has 100001)\n')
 
 
+def test_header(swapped, lent):
+    """The header file is not read: the library is lent a range of its length that is really there, all zeros."""
+    w = fresh('header')
+    index = copy_volume('re_nuc0', f'{w}/v')
+    path = {'PATH': os.environ['PATH']}
+    line = f'{index}: {passed_line("re_nuc0")}\n'
+    want('two reads of index and sequence file each, none of the header file', run(swapped, index, env={'AT_READ_5': 'false', **path}), 0,
+         line, '')
+    want('a read too many ends the trial', run(swapped, index, env={'AT_READ_4': 'false', **path}), -signal.SIGABRT)
+    want('every byte of the ranges is there', run(lent, index), 0, line, '')
+    want('also for a hint', run(lent, f'{SAMPLES}/mb_nuc'), 1, run('gullcheck', f'{SAMPLES}/mb_nuc').out, '')
+    os.truncate(f'{w}/v.nhr', 100000000)
+    want('also of a large header file', run(lent, index), 1,
+         f'{index}: refused 7: offsets break their rules (the index states 1786 bytes for the header file, it has 100000000)\n', '')
+    more = fresh('headers')
+    for k in range(4):
+        copy_volume('re_nuc0', f'{more}/{k}')
+        os.truncate(f'{more}/{k}.nhr', 100000000)
+    tight = {'preexec_fn': lambda: resource.setrlimit(resource.RLIMIT_AS, (256 << 20, 256 << 20))}
+    done = run('gullcheck', more, **tight)
+    count(done.status == 1 and len(done.lines()) == 4 and not done.err, 'a range is given back behind its volume', done)
+    os.truncate(f'{w}/v.nhr', 0)
+    want('and of an empty one', run(lent, index), 1,
+         f'{index}: refused 7: offsets break their rules (the index states 1786 bytes for the header file, it has 0)\n', '')
+
+
+def test_guarded(guarded):
+    """The same lines under the compiler's sanitizers, which end a program that reads or writes outside its memory, or leaks."""
+    w, found = tree()
+    write(f'{w}/list', '\0'.join((*found, w, f'{w}/none', *found)).encode())
+    for words in (('--json', '-j', '2', f'{WORK}/damaged'), (f'{w}/top', w, f'{w}/none', f'{w}/none', f'{w}/empty', '', *found),
+                  ('--files-from', f'{w}/list', '--json', '-j', '3'), ('--files-from', f'{w}/nowhere'), ('--files-from', w), (f'{WORK}/unreadable', '--json'),
+                  (f'{w}/b/one.psq', f'{w}/b/one.xyz', f'{w}/b/one.pxy', 'x' * 254), ('--help',), ('-j', '0'), ()):
+        plain, done = run('gullcheck', *words), run(guarded, *words)
+        count((done.status, done.out, done.err) == (plain.status, plain.out, plain.err), f'the sanitizers find nothing: {words[:4]}', done.err)
+
+
 def on_terminal(*words):
     """What a terminal gets, escape sequences made visible."""
     ours, theirs = pty.openpty()
@@ -269,9 +323,10 @@ def test_terminal():
 
 
 def test_all():
-    wraps = ['-Wl,--wrap=open,--wrap=read']
-    swapped = build('swapped', 'gullcheck', wraps, 'tests/swap.c')
-    small = build('small', 'gullcheck', ['-DMOST_INPUT=100000'])
+    swapped = build('swapped', 'gullcheck', '-Wl,--wrap=open,--wrap=read', 'tests/swap.c')
+    small = build('small', 'gullcheck', '-DMOST_INPUT=100000')
+    guarded = build('guarded', 'gullcheck', *SANITIZERS)
+    lent = build('lent', 'gullcheck', '-Wl,--wrap=gull_check_volume', 'tests/lent.c')
     test_usage()
     test_help()
     test_directories()
@@ -281,5 +336,7 @@ def test_all():
     test_swapped(swapped)
     test_jobs(swapped)
     test_limit(small)
+    test_header(swapped, lent)
+    test_guarded(guarded)
     test_lines()
     test_terminal()
