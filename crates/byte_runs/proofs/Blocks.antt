@@ -13,7 +13,7 @@ use lib.Seq.{getD-set-same, getD-set-other, take-append-seam, take-length}
 use Rattle.laws.specs.Digits.{digits}
 use Rattle.laws.specs.Places.{every}
 use Rattle.laws.specs.Writing.{writtenAt, Begun}
-use Rattle.laws.proofs.Begun.{begun-none, begun-written, begun-wider, begun-join}
+use Rattle.laws.proofs.Begun.{begun-written, begun-wider, begun-join}
 use Rattle.laws.proofs.Digits.{length-digits, digits-split}
 use Rattle.laws.proofs.Numbers.{digits-low}
 use Rattle.laws.proofs.Places.{every-at}
@@ -222,15 +222,6 @@ length-two a b = refl
 
 pub front-is : (cs zs : List ℕ) → zs ≡ cs → Fronts cs zs
 front-is cs zs e = ap (take (length cs)) e ∙ take-length cs
-
--- nothing is written yet
-pub begun-start : (ps : List ℕ) (f place end : ℕ) (d : List ℕ) → Begun place (codesFrom ps f 0) end d d
-unfolding codesFrom
-begun-start ps f place end d = begun-none place end d
-
-pub none-yet : (ps : List ℕ) (f : ℕ) → length (codesFrom ps f 0) ≡ 0
-unfolding codesFrom
-none-yet ps f = refl
 
 -- four lists of four written one behind another
 pub fours-put : (at : ℕ) (A B C D out : List ℕ) → length A ≡ 4 → length B ≡ 4 → length C ≡ 4 → length D ≡ 4 → at + 16 ≤ length out

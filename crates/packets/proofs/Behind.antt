@@ -11,13 +11,22 @@ use lib.Dec.{eqb}
 use lib.ListN.{length, drop, getD, length-append}
 use lib.Seq.{take-length}
 use Rattle.laws.specs.Writing.{writtenAt, Begun}
-use Rattle.laws.proofs.Begun.{begun-written, begun-join, begun-whole}
+use Rattle.laws.proofs.Begun.{begun-none, begun-written, begun-join, begun-whole}
 use Rattle.laws.proofs.Tests.{bool-cases}
 use Rattle.packets.specs.Runs.{isFiveBit, codesIn, residues, wellFormed, unpacked}
 use Rattle.packets.specs.Decoded.{codesFrom}
 use Rattle.packets.specs.Reading.{fiveBitTo}
 use Rattle.packets.proofs.Codes.{codes-count}
 use Rattle.packets.proofs.Shapes.{inner-codes, well-inner, unpacked-from, unpacked-end}
+
+-- nothing is written yet
+pub begun-start : (ps : List ℕ) (f place end : ℕ) (d : List ℕ) → Begun place (codesFrom ps f 0) end d d
+unfolding codesFrom
+begun-start ps f place end d = begun-none place end d
+
+pub none-yet : (ps : List ℕ) (f : ℕ) → length (codesFrom ps f 0) ≡ 0
+unfolding codesFrom
+none-yet ps f = refl
 
 -- one packet more
 pub codes-next : (ps : List ℕ) (f n : ℕ) → codesFrom ps f (n + 1) ≡ codesFrom ps f n ++ codesIn (getD ps (f + n) 0)

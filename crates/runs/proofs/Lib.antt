@@ -1,4 +1,3 @@
-pub mod Counts
 pub mod Turns
 pub mod Answers
 pub mod Bodies

@@ -1,15 +1,16 @@
--- `runs::write_residues`: the residues written so far, and those of the packets still to read. Assumes nothing.
-use mathlib.Core.Path.{_≡_, refl, _∙_}
-use mathlib.Core.List.{_++_}
-use Prim.Native.Nat.{_≤_, _-_, _+_}
+-- `runs::write_residues`: the codes written so far, and the residues of the last packet. Assumes nothing.
+use mathlib.Core.Path.{_≡_, refl, ap, _∙_}
+use Prim.Native.Nat.{ℕ, _+_, _-_, _≤_, _<_}
+use native.Mathlib.Nat.{zero-add}
 use native.Mathlib.Omega.{arith}
 use lib.ListN.{length, drop, getD}
-use lib.Seq.{paste, paste-zero}
 use denote.Ref.{now}
+use Rattle.laws.specs.Writing.{Begun}
 use Rattle.packets.specs.Runs.{codesIn, residues, unpacked}
+use Rattle.packets.specs.Decoded.{codesFrom}
+use Rattle.packets.proofs.Behind.{begun-start, none-yet, behind-room, behind-more, behind-count, last-room, behind-last}
 use Rattle.packets.proofs.Codes.{codes-put, residues-put}
 use Rattle.packets.proofs.Shapes.{well-some}
-use Rattle.runs.proofs.Counts.{part-within, part-goes, part-behind, part-ends, inner-from, last-from}
 use borrow.Author.Needs.{needs}
 use Rattle.runs.proofs.write_residues.Statement.{statement}
 use Rattle.runs.proofs.write_residues.Tie as tie
@@ -17,27 +18,19 @@ use Rattle.runs.proofs.write_residues.Tie as tie
 abbrev Inv-loop : tie.InvT-loop
 Inv-loop alphabet packets out₀ last at₀ i₀ out at i = (i ≤ last)
     × (last + 1 ≡ length packets)
-    × (length out ≡ length out₀)
-    × (at ≤ length (unpacked packets))
-    × (out ≡ paste out₀ 0 (unpacked packets) at)
-    × (drop at (unpacked packets) ≡ unpacked (drop i packets))
+    × (at ≡ 0 + length (codesFrom packets 0 i))
+    × Begun 0 (codesFrom packets 0 i) (0 + length (unpacked (drop 0 packets))) out₀ out
 
 abbrev μ-loop : tie.MeasureT-loop
 μ-loop alphabet packets out₀ last at₀ i₀ out at i = last - i
 
 sub-last : tie.Need-sub-last Inv-loop μ-loop
-sub-last c = let a = (c .before .before .args) .alphabet in
-    let ps = now ((c .before .before .args) .packets) in
-    let U = unpacked ps in
-    let d = now ((c .before .before .args) .out) in
-    omega (arith, well-some a ps ((c .before .before .pre) .0))
+sub-last c = omega (arith, well-some ((c .before .before .args) .alphabet) _ ((c .before .before .pre) .0))
 
 loop-holds : tie.Need-loop-holds Inv-loop μ-loop
-loop-holds c = let a = (c .before .before .args) .alphabet in
+loop-holds c =
     let ps = now ((c .before .before .args) .packets) in
-    let U = unpacked ps in
-    let d = now ((c .before .before .args) .out) in
-    (omega arith, omega (arith, well-some a ps ((c .before .before .pre) .0)), refl, omega arith, paste-zero d 0 U, refl)
+    (omega arith, omega (arith, well-some ((c .before .before .args) .alphabet) ps ((c .before .before .pre) .0)), omega (arith, none-yet ps 0), begun-start ps 0 0 _ (now ((c .before .before .args) .out)))
 
 mul-packet : tie.Need-mul-packet Inv-loop μ-loop
 mul-packet c = search needs
@@ -52,17 +45,12 @@ code-count-requires : tie.Need-code-count-requires Inv-loop μ-loop
 code-count-requires c κs = search needs
 
 add-at : tie.Need-add-at Inv-loop μ-loop
-add-at c = let a = (c .before .before .before .before .before .before .before .before .before .before .args) .alphabet in
-    let ps = now ((c .before .before .before .before .before .before .before .before .before .before .args) .packets) in
-    let U = unpacked ps in
-    let d = now ((c .before .before .before .before .before .before .before .before .before .before .args) .out) in
+add-at c =
+    let a = (c .before .before .before .before .before .before .before .before .before .before .args) in
     let l = (c .before .before .before .before .before .before .before .loop) in
+    let ps = now (a .packets) in
     let p = getD ps (l .i) 0 in
-    let rest = unpacked (drop (l .i + 1) ps) in
-    let f : drop (l .at) U ≡ codesIn p ++ rest = l .inv .5 ∙ inner-from a ps ((c .before .before .before .before .before .before .before .before .before .before .pre) .0) (l .i) (omega arith) in
-    let w = part-within d U (l .at) (l .out) (l .inv .4) (l .inv .3) (codesIn p) rest f in
-    let k : (c .code-count) .result ≡ length (codesIn p) = (c .code-count) .ensures in
-    omega (arith, (c .before .before .before .before .before .before .before .before .before .before .pre) .1)
+    omega (arith, (c .code-count) .ensures, (c .before .before .before .before .before .before .before .before .before .before .pre) .1, behind-room (a .alphabet) ps ((c .before .before .before .before .before .before .before .before .before .before .pre) .0) 0 0 (now (a .out)) (rw zero-add ((c .before .before .before .before .before .before .before .before .before .before .pre) .1)) (l .i) p (l .at) (rw zero-add) (l .inv .2) (l .out) (l .inv .3) (omega arith))
 
 add-i : tie.Need-add-i Inv-loop μ-loop
 add-i c = search needs
@@ -71,19 +59,20 @@ loop-less : tie.Need-loop-less Inv-loop μ-loop
 loop-less c = search needs
 
 loop-again : tie.Need-loop-again Inv-loop μ-loop
-loop-again c = let a = (c .before .before .before .before .before .before .before .before .before .before .args) .alphabet in
-    let ps = now ((c .before .before .before .before .before .before .before .before .before .before .args) .packets) in
-    let U = unpacked ps in
-    let d = now ((c .before .before .before .before .before .before .before .before .before .before .args) .out) in
+loop-again c =
+    let a = (c .before .before .before .before .before .before .before .before .before .before .args) in
     let l = (c .before .before .before .before .before .before .before .loop) in
+    let ps = now (a .packets) in
     let p = getD ps (l .i) 0 in
-    let rest = unpacked (drop (l .i + 1) ps) in
-    let f : drop (l .at) U ≡ codesIn p ++ rest = l .inv .5 ∙ inner-from a ps ((c .before .before .before .before .before .before .before .before .before .before .pre) .0) (l .i) (omega arith) in
-    let w = part-within d U (l .at) (l .out) (l .inv .4) (l .inv .3) (codesIn p) rest f in
-    let k : (c .code-count) .result ≡ length (codesIn p) = (c .code-count) .ensures in
-    let o = (c .before .before .before .decode-codes) .ensures ∙ (codes-put p (l .at) (l .out) (codesIn p) refl (omega (arith, (c .before .before .before .before .before .before .before .before .before .before .pre) .1))) in
-    let g = part-goes d U (l .at) (l .out) (l .inv .4) (l .inv .3) (codesIn p) rest f in
-    (omega arith, l .inv .1, (c .before .before .out) .given ∙ l .inv .2, omega arith, rw k (o ∙ g), rw k (part-behind d U (l .at) (l .out) (l .inv .4) (l .inv .3) (codesIn p) rest f))
+    let room : 0 + length (unpacked (drop 0 ps)) ≤ length (now (a .out)) = rw zero-add ((c .before .before .before .before .before .before .before .before .before .before .pre) .1) in
+    let here : p ≡ getD ps (0 + l .i) 0 = rw zero-add in
+    let r = behind-room (a .alphabet) ps ((c .before .before .before .before .before .before .before .before .before .before .pre) .0) 0 0 (now (a .out)) room (l .i) p (l .at) here (l .inv .2) (l .out) (l .inv .3) (omega arith) in (
+      omega arith,
+      l .inv .1,
+      omega (arith, (c .code-count) .ensures, l .inv .2, behind-count (a .alphabet) ps ((c .before .before .before .before .before .before .before .before .before .before .pre) .0) 0 0 (now (a .out)) room (l .i) p (l .at) here (l .inv .2) (l .out) (l .inv .3)),
+      rw ((c .before .before .before .decode-codes) .ensures ∙ codes-put p (l .at) (l .out) (codesIn p) refl (omega (arith, l .inv .3 .size)))
+          (behind-more (a .alphabet) ps ((c .before .before .before .before .before .before .before .before .before .before .pre) .0) 0 0 (now (a .out)) room (l .i) p (l .at) here (l .inv .2) (l .out) (l .inv .3) (omega arith)),
+    )
 
 mul-decode : tie.Need-mul-decode Inv-loop μ-loop
 mul-decode c = search needs
@@ -95,24 +84,22 @@ decode-requires : tie.Need-decode-requires Inv-loop μ-loop
 decode-requires c κs = search needs
 
 same-length : tie.Need-same-length Inv-loop μ-loop
-same-length c = (c .before .out2) .given ∙ (c .before .before .before .before .before .before .loop) .inv .2
+same-length c = (c .before .out2) .given ∙ (c .before .before .before .before .before .before .loop) .inv .3 .size
 
 returns : tie.Need-returns Inv-loop μ-loop
-returns c = let a = (c .before .before .before .before .before .before .before .before .before .args) .alphabet in
-    let ps = now ((c .before .before .before .before .before .before .before .before .before .args) .packets) in
-    let U = unpacked ps in
-    let d = now ((c .before .before .before .before .before .before .before .before .before .args) .out) in
+returns c =
+    let a = (c .before .before .before .before .before .before .before .before .before .args) in
     let l = (c .before .before .before .before .before .before .loop) in
-    let z = well-some a ps ((c .before .before .before .before .before .before .before .before .before .pre) .0) in
-    let last = length ps - 1 in
-    let n : l .i ≡ last = omega arith in
-    let p = getD ps last 0 in
-    let q = last-from a ps ((c .before .before .before .before .before .before .before .before .before .pre) .0) last (omega arith) in
-    let rest = unpacked (drop (last + 1) ps) in
-    let f : drop (l .at) U ≡ residues p ++ rest = l .inv .5 ∙ rw n (q .0) in
-    let w = part-within d U (l .at) (l .out) (l .inv .4) (l .inv .3) (residues p) rest f in
-    (c .before .before .decode) .ensures ∙ (residues-put p (l .at) (l .out) (residues p) refl (omega (arith, (c .before .before .before .before .before .before .before .before .before .pre) .1)))
-    ∙ part-ends d U (l .at) (l .out) (l .inv .4) (l .inv .3) (residues p) rest f (q .1)
+    let ps = now (a .packets) in
+    let p = getD ps (length ps - 1) 0 in
+    let n : l .i ≡ length ps - 1 = omega arith in
+    let room : 0 + length (unpacked (drop 0 ps)) ≤ length (now (a .out)) = rw zero-add ((c .before .before .before .before .before .before .before .before .before .pre) .1) in
+    let here : p ≡ getD ps (0 + l .i) 0 = rw (zero-add, n) in
+    let h : 0 + l .i + 1 ≡ length ps = omega arith in
+    let r = last-room (a .alphabet) ps ((c .before .before .before .before .before .before .before .before .before .pre) .0) 0 0 (now (a .out)) room (l .i) p (l .at) here (l .inv .2) (l .out) (l .inv .3) h in
+    (c .before .before .decode) .ensures
+    ∙ residues-put p (l .at) (l .out) (residues p) refl (omega (arith, l .inv .3 .size))
+    ∙ behind-last (a .alphabet) ps ((c .before .before .before .before .before .before .before .before .before .pre) .0) 0 0 (now (a .out)) room (l .i) p (l .at) here (l .inv .2) (l .out) (l .inv .3) h
 
 pub write-residues-spec : {M : Type 1} → statement M
 write-residues-spec =

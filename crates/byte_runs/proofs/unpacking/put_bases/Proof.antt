@@ -10,7 +10,8 @@ use Rattle.packets.specs.Decoded.{codesFrom}
 use Rattle.packets.specs.Runs.{isFiveBit, codesIn}
 use Rattle.packets.proofs.Codes.{codes-two}
 use Rattle.byte_runs.specs.Blocks.{InFour, Fronts, bytesOfFour}
-use Rattle.byte_runs.proofs.Blocks.{two-front, four-more, begun-start, begun-more, twos-count}
+use Rattle.packets.proofs.Behind.{begun-start}
+use Rattle.byte_runs.proofs.Blocks.{two-front, four-more, begun-more, twos-count}
 use borrow.Author.Needs.{needs}
 use Rattle.byte_runs.proofs.unpacking.put_bases.Statement.{statement}
 use Rattle.byte_runs.proofs.unpacking.put_bases.Tie as tie

@@ -10,7 +10,8 @@ use Rattle.packets.specs.Decoded.{codesFrom}
 use Rattle.packets.specs.Runs.{codesIn}
 use Rattle.packets.proofs.Codes.{codes-count}
 use Rattle.byte_runs.specs.Blocks.{InFour, Fronts, bytesOfFour}
-use Rattle.byte_runs.proofs.Blocks.{mixed-front, four-more, begun-start, begun-more, codes-within, none-yet, count-next}
+use Rattle.packets.proofs.Behind.{begun-start, none-yet}
+use Rattle.byte_runs.proofs.Blocks.{mixed-front, four-more, begun-more, codes-within, count-next}
 use borrow.Author.Needs.{needs}
 use Rattle.byte_runs.proofs.unpacking.put_mixed.Statement.{statement}
 use Rattle.byte_runs.proofs.unpacking.put_mixed.Tie as tie

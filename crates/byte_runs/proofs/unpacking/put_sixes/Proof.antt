@@ -11,7 +11,8 @@ use Rattle.packets.specs.Runs.{isFiveBit}
 use Rattle.laws.proofs.Begun.{begun-whole}
 use Rattle.packets.proofs.Codes.{codes-five}
 use Rattle.byte_runs.specs.Blocks.{InTwo}
-use Rattle.byte_runs.proofs.Blocks.{six-parts, two-more, begun-start, begun-more, front-is, fives-count}
+use Rattle.packets.proofs.Behind.{begun-start}
+use Rattle.byte_runs.proofs.Blocks.{six-parts, two-more, begun-more, front-is, fives-count}
 use borrow.Author.Needs.{needs}
 use Rattle.byte_runs.proofs.unpacking.put_sixes.Statement.{statement}
 use Rattle.byte_runs.proofs.unpacking.put_sixes.Tie as tie

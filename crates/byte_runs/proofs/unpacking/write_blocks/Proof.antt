@@ -15,7 +15,8 @@ use Rattle.laws.proofs.Parts.{part-rest}
 use Rattle.packets.proofs.Bytes.{length-packets}
 use Rattle.byte_runs.specs.Blocks.{AllOf, spare, margin}
 use Rattle.byte_runs.proofs.Stores.{byte-is}
-use Rattle.byte_runs.proofs.Blocks.{begun-start, none-yet, block-codes, block-fives, block-count, block-room, block-begun}
+use Rattle.packets.proofs.Behind.{begun-start, none-yet}
+use Rattle.byte_runs.proofs.Blocks.{block-codes, block-fives, block-count, block-room, block-begun}
 use borrow.Author.Needs.{needs}
 use Rattle.byte_runs.proofs.unpacking.write_blocks.Statement.{statement}
 use Rattle.byte_runs.proofs.unpacking.write_blocks.Tie as tie

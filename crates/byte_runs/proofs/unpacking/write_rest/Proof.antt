@@ -9,9 +9,8 @@ use Rattle.packets.specs.Runs.{codesIn, residues, unpacked}
 use Rattle.packets.specs.Bytes.{packetsOf}
 use Rattle.packets.specs.Decoded.{codesFrom}
 use Rattle.packets.proofs.Bytes.{length-packets}
-use Rattle.packets.proofs.Behind.{behind-room, behind-more, behind-count, last-room, behind-last}
+use Rattle.packets.proofs.Behind.{begun-start, none-yet, behind-room, behind-more, behind-count, last-room, behind-last}
 use Rattle.packets.proofs.Codes.{residues-put}
-use Rattle.byte_runs.proofs.Blocks.{begun-start, none-yet}
 use borrow.Author.Needs.{needs}
 use Rattle.byte_runs.proofs.unpacking.write_rest.Statement.{statement}
 use Rattle.byte_runs.proofs.unpacking.write_rest.Tie as tie
