@@ -83,7 +83,7 @@ returns-2 : tie.Need-returns-2 Inv-loop μ-loop
 unfolding endsRules
 returns-2 c =
     let a = c .before .before .before .before .before .args in
-    let n = ne-eqb (after (endBefore (now (a .index)) (a .table) (a .n))) (a .size) (λ x. c .if2 .taken (last-place (c .before) ∙ x)) in
+    let n = ne-eqb (after (endBefore (now (a .index)) (a .table) (a .n))) (a .size) (λ x. omega (arith, last-place (c .before), x)) in
     rw (all-rise (c .before .before), n)
 
 returns-3 : tie.Need-returns-3 Inv-loop μ-loop

@@ -1,5 +1,6 @@
 -- `dsqdata::records::check_totals`: the tests are the rules, one by one. Assumes nothing.
 use Rattle.dsqdata.proofs.Totals.{residues-wrong, sequence-wrong, name-wrong, accession-wrong, description-wrong, totals-right}
+use native.Mathlib.Omega.{arith}
 use borrow.Author.Needs.{needs}
 use Rattle.dsqdata.proofs.records.check_totals.Statement.{statement}
 use Rattle.dsqdata.proofs.records.check_totals.Tie as tie
@@ -26,7 +27,9 @@ cast-if5 : tie.Need-cast-if5
 cast-if5 c = search needs
 
 returns-5 : tie.Need-returns-5
-returns-5 c = description-wrong _ _ _ _ _ _ (c .if5 .taken)
+returns-5 c =
+    let a = c .before .before .before .before .before .before .before .before .before .before .args in
+    description-wrong (a .set) (a .residues) (a .sequence) (a .name) (a .accession) (a .description) (λ x. omega (arith, x))
 
 returns-6 : tie.Need-returns-6
 returns-6 c =
