@@ -1,3 +1,4 @@
+pub mod Told
 pub mod Checks
 pub mod Numbers
 pub mod Alone

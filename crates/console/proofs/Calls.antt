@@ -39,13 +39,15 @@ module _ (alphabet : ℕ) (codes buffer : List ℕ) (place room : ℕ) where
   pub pack-room : roomFor 2 room ≡ true → consolePack alphabet codes buffer place room ≡ packBytesAnswer alphabet codes buffer place
   unfolding consolePack packAnswer
   pack-room h =
-      last-holds P.Refused (P.Packed (length (run alphabet codes)) (length codes)) (packRules alphabet codes (length buffer / 4) place) (roomFor 2 room) NoRoom h
+      last-holds P.Refused (P.Packed (length (run alphabet codes)) (length codes)) (packRules alphabet codes (length buffer / 4) place)
+      (roomFor 2 room) NoRoom h
 
   -- a refusal of packing comes first
   pub pack-refused : (r : Refusal) → packBytesAnswer alphabet codes buffer place ≡ P.Refused r → consolePack alphabet codes buffer place room ≡ P.Refused r
   unfolding consolePack packAnswer
   pack-refused r e =
-      last-unasked P.Refused (P.Packed (length (run alphabet codes)) (length codes)) (packRules alphabet codes (length buffer / 4) place) (roomFor 2 room) NoRoom
+      last-unasked P.Refused (P.Packed (length (run alphabet codes)) (length codes)) (packRules alphabet codes (length buffer / 4) place)
+      (roomFor 2 room) NoRoom
       r (pack-cause r) (λ h. packed-not _ _ r (sym h)) e
 
   -- without room what would be packed is 13
@@ -53,7 +55,8 @@ module _ (alphabet : ℕ) (codes buffer : List ℕ) (place room : ℕ) where
       → consolePack alphabet codes buffer place room ≡ P.Refused NoRoom
   unfolding consolePack packAnswer
   pack-short h n l e =
-      last-broken P.Refused (P.Packed (length (run alphabet codes)) (length codes)) (packRules alphabet codes (length buffer / 4) place) (roomFor 2 room) NoRoom
+      last-broken P.Refused (P.Packed (length (run alphabet codes)) (length codes)) (packRules alphabet codes (length buffer / 4) place)
+      (roomFor 2 room) NoRoom
       (P.Packed n l) (packed-not n l) h e
 
   -- what is packed had room for the results
@@ -77,19 +80,22 @@ module _ (alphabet : ℕ) (bytes : List ℕ) (out room : ℕ) where
   pub unpack-room : roomFor 2 room ≡ true → consoleUnpack alphabet bytes out room ≡ unpackBytesAnswer alphabet bytes out
   unfolding consoleUnpack unpackBytesAnswer
   unpack-room h =
-      last-holds U.Refused (U.Unpacked (length (packetsOf bytes)) (length (unpacked (packetsOf bytes)))) (unpackBytesRules alphabet bytes out) (roomFor 2 room) NoRoom h
+      last-holds U.Refused (U.Unpacked (length (packetsOf bytes)) (length (unpacked (packetsOf bytes)))) (unpackBytesRules alphabet bytes out)
+      (roomFor 2 room) NoRoom h
 
   pub unpack-refused : (r : Refusal) → unpackBytesAnswer alphabet bytes out ≡ U.Refused r → consoleUnpack alphabet bytes out room ≡ U.Refused r
   unfolding consoleUnpack unpackBytesAnswer
   unpack-refused r e =
-      last-unasked U.Refused (U.Unpacked (length (packetsOf bytes)) (length (unpacked (packetsOf bytes)))) (unpackBytesRules alphabet bytes out) (roomFor 2 room) NoRoom
+      last-unasked U.Refused (U.Unpacked (length (packetsOf bytes)) (length (unpacked (packetsOf bytes)))) (unpackBytesRules alphabet bytes out)
+      (roomFor 2 room) NoRoom
       r (unpack-cause r) (λ h. unpacked-not _ _ r (sym h)) e
 
   pub unpack-short : roomFor 2 room ≡ false → (n l : ℕ) → unpackBytesAnswer alphabet bytes out ≡ U.Unpacked n l
       → consoleUnpack alphabet bytes out room ≡ U.Refused NoRoom
   unfolding consoleUnpack unpackBytesAnswer
   unpack-short h n l e =
-      last-broken U.Refused (U.Unpacked (length (packetsOf bytes)) (length (unpacked (packetsOf bytes)))) (unpackBytesRules alphabet bytes out) (roomFor 2 room) NoRoom
+      last-broken U.Refused (U.Unpacked (length (packetsOf bytes)) (length (unpacked (packetsOf bytes)))) (unpackBytesRules alphabet bytes out)
+      (roomFor 2 room) NoRoom
       (U.Unpacked n l) (unpacked-not n l) h e
 
 -- the output after: with room as unpacking bytes leaves it
@@ -137,7 +143,8 @@ module _ (alphabet : ℕ) (bytes codes results : List ℕ) where
   unfolding codesAfterBytes
   unpack-left r h = simp h
 
-  pub unpack-all-unpacked : roomFor 2 (length results) ≡ true → (n l : ℕ) → unpackBytesAnswer alphabet bytes (length codes) ≡ U.Unpacked n l → (left told : List ℕ)
+  pub unpack-all-unpacked : roomFor 2 (length results) ≡ true → (n l : ℕ) → unpackBytesAnswer alphabet bytes (length codes) ≡ U.Unpacked n l →
+      (left told : List ℕ)
       → left ≡ codesAfterBytes alphabet bytes codes → told ≡ resultsPut (n ∷ l ∷ []) results
       → (0 ≡ unpackNumber unpacking) × ((left ≡ consoleCodes alphabet bytes codes (length results)) × (told ≡ unpackResults unpacking results))
   unfolding consoleCodes codesAfterBytes

@@ -37,7 +37,8 @@ module _ {A : Type 0} (refused : Refusal → A) (number : A → ℕ) (values : A
       all-refused r n e (last-unasked refused passed rules (roomFor count (length results)) NoRoom r (k .apart r) d h)
 
   -- without room what passed is refused for that
-  pub told-short : (x : A) (n : ℕ) → n ≡ numberOf NoRoom → ((r : Refusal) → refused r ≡ x → ⊥) → roomFor count (length results) ≡ false → verdict refused passed rules ≡ x
+  pub told-short : (x : A) (n : ℕ) → n ≡ numberOf NoRoom → ((r : Refusal) → refused r ≡ x → ⊥) → roomFor count (length results) ≡ false
+      → verdict refused passed rules ≡ x
       → (n ≡ number answer) × (results ≡ resultsPut (values answer) results)
   told-short x n e d room h =
       all-refused NoRoom n e (last-broken refused passed rules (roomFor count (length results)) NoRoom x d room h)

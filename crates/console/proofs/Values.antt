@@ -19,7 +19,8 @@ length-results (v ∷ values) = omega (arith, length-append (littleBytes 8 v) (r
 
 pub results-append : (xs ys : List ℕ) → resultBytes (xs ++ ys) ≡ resultBytes xs ++ resultBytes ys
 results-append [] ys = refl
-results-append (x ∷ xs) ys = ap (λ (l : List ℕ). littleBytes 8 x ++ l) (results-append xs ys) ∙ sym (append-assoc (littleBytes 8 x) (resultBytes xs) (resultBytes ys))
+results-append (x ∷ xs) ys = ap (λ (l : List ℕ). littleBytes 8 x ++ l) (results-append xs ys) ∙ sym
+    (append-assoc (littleBytes 8 x) (resultBytes xs) (resultBytes ys))
 
 -- one value more, after those before it
 pub results-next : (values results out : List ℕ) (k v : ℕ) → k < length values → 8 * length values ≤ length results → v ≡ getD values k 0
@@ -31,7 +32,8 @@ results-next values results out k v h room e so-far same =
     let zero-at : 0 + length xs ≡ 8 * k = omega arith in
     let fits : 8 * k + 8 ≤ length out = omega arith in
     let join : xs ++ littleBytes 8 v ≡ resultBytes (take (k + 1) values) =
-    sym (rw (add-one, take-suc values k 0 h) (results-append (take k values) (getD values k 0 ∷ []) ∙ rw (← e) (ap (λ (l : List ℕ). xs ++ l) (append-nil (littleBytes 8 v))))) in
+    sym (rw (add-one, take-suc values k 0 h)
+    (results-append (take k values) (getD values k 0 ∷ []) ∙ rw (← e) (ap (λ (l : List ℕ). xs ++ l) (append-nil (littleBytes 8 v))))) in
     put-fits 8 (8 * k) v out fits
     ∙ (ap (λ (l : List ℕ). writtenAt (8 * k) (littleBytes 8 v) l) so-far
     ∙ (ap (λ (n : ℕ). writtenAt n (littleBytes 8 v) (writtenAt 0 xs results)) (sym zero-at)

@@ -46,7 +46,8 @@ module _ (index sequence header results : List ℕ) where
       → told ≡ resultsPut (recordValues v) results → (0 ≡ volumeNumber answer) × (told ≡ volumeResults answer results)
   unfolding consoleVolume volumeAnswer
   volume-passed v told room h e =
-      told-passed Refused volumeNumber volumeValues answers (Passed (volumeRecord index)) (volumeRules index sequence header) 8 results (Passed v) told room h refl e
+      told-passed Refused volumeNumber volumeValues answers (Passed (volumeRecord index)) (volumeRules index sequence header) 8 results
+      (Passed v) told room h refl e
 
 -- with room the console's check answers as the volume check does
 pub volume-room : (index sequence header : List ℕ) (room : ℕ) → roomFor 8 room ≡ true

@@ -245,8 +245,12 @@ module _ (alphabet : ℕ) (codes : List ℕ) where
   unfolding consoleBuffer
   gull-pack-call buffer at results =
       let answer = consolePack alphabet codes buffer at (length results) in
-      let a = pack-answered answer in
-      (a, packed-kept answer (writtenAt (byteOf 0 at) (bytesOf (run alphabet codes)) buffer) buffer, results-kept (packNumber answer) (packValues answer) results a)
+      let a = pack-answered answer in (
+        a,
+        packed-kept answer (writtenAt (byteOf 0 at) (bytesOf (run alphabet codes)) buffer) buffer,
+        results-kept (packNumber answer)
+            (packValues answer) results a,
+      )
 
 module _ (alphabet : ℕ) where
   -- `unpack` and its output

@@ -53,7 +53,8 @@ module _ (index sequence header : List ℕ) where
   module _ (results : List ℕ) where
     pub gull-volume-passes-only : volumeNumber (consoleVolume index sequence header (length results)) ≡ 0
         → VolumeHolds index sequence header × (64 ≤ length results)
-        × (volumeResults (consoleVolume index sequence header (length results)) results ≡ writtenAt 0 (resultBytes (recordValues (volumeRecord index))) results)
+        × (volumeResults (consoleVolume index sequence header (length results)) results ≡ writtenAt 0
+        (resultBytes (recordValues (volumeRecord index))) results)
     gull-volume-passes-only z =
         let fits = Volume.zero-room index sequence header (length results) z in
         let same = Volume.volume-room index sequence header (length results) fits in
@@ -109,7 +110,8 @@ module _ (index sequence : List ℕ) (i room : ℕ) where
   pub dna-never-11 : statedType index ≡ pos 0 → decodeNumber (decodeAnswer index sequence i room) ≡ 11 → ⊥
   dna-never-11 = Decoding.dna-never-11 index sequence i room
 
-module _ (index sequence header : List ℕ) (passes : volumeNumber (volumeAnswer index sequence header) ≡ 0) (i : ℕ) (below : i < sequences index) (room : ℕ) where
+module _ (index sequence header : List ℕ) (passes : volumeNumber (volumeAnswer index sequence header) ≡ 0) (i : ℕ) (below : i < sequences index)
+    (room : ℕ) where
   -- For every sequence of a volume that passes the volume check only 11, 12 and 13 remain, and 13 only where the room is below L, the length
   -- that the check summed.
   pub decode-only-residues : OnlyResidues index sequence i room
@@ -154,7 +156,8 @@ module _ (index sequence : List ℕ) (i : ℕ) (output : List ℕ) (decodes : de
   dna-covered e = Given.dna-covered index sequence i output decodes (Exact.dna-type index e)
 
   -- .. and where none does, its base: two bits of a byte from S[i] on, highest first
-  pub dna-base : statedType index ≡ pos 0 → (w n : ℕ) → HasEntries sequence (dnaEnd index i) (rangeEnd index i) w n → (k d : ℕ) → k < dnaLength index sequence i
+  pub dna-base : statedType index ≡ pos 0 → (w n : ℕ) → HasEntries sequence (dnaEnd index i) (rangeEnd index i) w n → (k d : ℕ)
+      → k < dnaLength index sequence i
       → ((j : ℕ) → j < n →
       let entry = correctionAt sequence (dnaEnd index i + 4) w j in
       (k < entry .start) ⊎ (entry .start + entry .length ≤ k))

@@ -62,7 +62,8 @@ may-of a codes room place r = packed-may a codes room place (length (run a codes
 pub record PackLaws (call : PackCall) (lent : List ℕ → List ℕ) (buffer : List ℕ) (room : ℕ) : Type 0 where
   pub packs : (codes : List ℕ) (place : ℕ) → MayPack (call .alphabet) codes room place
       → PacksAs call codes buffer place (length (run (call .alphabet) codes)) (lent (run (call .alphabet) codes))
-  pub there : (codes : List ℕ) (place : ℕ) → MayPack (call .alphabet) codes room place → rangePacked call codes buffer place ≡ lent (run (call .alphabet) codes)
+  pub there : (codes : List ℕ) (place : ℕ) → MayPack (call .alphabet) codes room place → rangePacked call codes buffer place ≡ lent
+      (run (call .alphabet) codes)
 
 -- An unpacking call that does what unpacking does, on ranges of a length that is allowed.
 pub record UnpackLaws (alphabet : ℕ) (call : UnpackCall) (lent : List ℕ → List ℕ) (Allowed : List ℕ → Type 0) : Type 0 where
@@ -109,7 +110,8 @@ module _ (p : PackCall) (lent : List ℕ → List ℕ) (buffer : List ℕ) (room
         record { unpacks = U .unpacks range out ok m; packs = rw codes-there x }
 
     -- the residues of any run come back
-    pub unpacks-again : (v : UnpackCall) (Allowed′ : List ℕ → Type 0) → UnpackLaws a v lent Allowed′ → (again : List ℕ) → place + length (run a residues) ≤ room
+    pub unpacks-again : (v : UnpackCall) (Allowed′ : List ℕ → Type 0) → UnpackLaws a v lent Allowed′ → (again : List ℕ) → place + length
+        (run a residues) ≤ room
         → length residues ≤ length again → UnpacksAgain u p v range out buffer place again
     unpacks-again v Allowed′ W again h enough = record {
       unpacks = U .unpacks range out ok m;
@@ -198,7 +200,8 @@ unpack-bytes-laws a = record {
 pub pack-unpack-bytes : (a : ℕ) (codes buffer : List ℕ) (place : ℕ) (out : List ℕ) → length codes ≤ length out → length buffer ≤ 18446744073709551615
     → Packs a codes (length buffer / 4) place → PacksAndUnpacks (packBytesCall a) (unpackBytesCall a) codes buffer place out
 pack-unpack-bytes a codes buffer place out h short r =
-    packs-unpacks (packBytesCall a) bytesOf buffer (length buffer / 4) place (pack-bytes-laws a buffer short) (unpackBytesCall a) FewBytes (unpack-bytes-laws a)
+    packs-unpacks (packBytesCall a) bytesOf buffer (length buffer / 4) place (pack-bytes-laws a buffer short) (unpackBytesCall a) FewBytes
+    (unpack-bytes-laws a)
     codes out (may-of a codes (length buffer / 4) place r) h
 
 -- whole bytes of an amino run: the run packs back to itself, and to these bytes
@@ -215,7 +218,8 @@ pub unpack-pack-bytes : (bytes out buffer : List ℕ) (place : ℕ) → allBelow
     → UnpacksAndPacks (unpackBytesCall 3) (packBytesCall 3) bytes out buffer place
 unpack-pack-bytes bytes out buffer place b r small short h =
     let k = amino-bytes bytes (length out) b r in
-    unpacks-packs (packBytesCall 3) bytesOf buffer (length buffer / 4) place (pack-bytes-laws 3 buffer short) (unpackBytesCall 3) FewBytes (unpack-bytes-laws 3)
+    unpacks-packs (packBytesCall 3) bytesOf buffer (length buffer / 4) place (pack-bytes-laws 3 buffer short) (unpackBytesCall 3) FewBytes
+    (unpack-bytes-laws 3)
     bytes out (r .inputSize, r .whole) (run-must 3 (packetsOf bytes) (length out) (r .run)) small (k .0) (k .1) (rw (length-packets bytes) h)
 
 -- The residues of any well-formed run come back.
@@ -224,6 +228,7 @@ pub unpack-again-bytes : (a : ℕ) (bytes out buffer : List ℕ) (place : ℕ) (
     → place + length (run a (unpacked (packetsOf bytes))) ≤ length buffer / 4 → length (unpacked (packetsOf bytes)) ≤ length again
     → UnpacksAgain (unpackBytesCall a) (packBytesCall a) (unpackBytesCall a) bytes out buffer place again
 unpack-again-bytes a bytes out buffer place again r small short h enough =
-    unpacks-again (packBytesCall a) bytesOf buffer (length buffer / 4) place (pack-bytes-laws a buffer short) (unpackBytesCall a) FewBytes (unpack-bytes-laws a)
+    unpacks-again (packBytesCall a) bytesOf buffer (length buffer / 4) place (pack-bytes-laws a buffer short) (unpackBytesCall a) FewBytes
+    (unpack-bytes-laws a)
     bytes out (r .inputSize, r .whole) (run-must a (packetsOf bytes) (length out) (r .run)) small (unpackBytesCall a) FewBytes (unpack-bytes-laws a)
     again h enough

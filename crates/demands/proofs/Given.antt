@@ -91,7 +91,8 @@ module _ (index sequence : List ℕ) (i : ℕ) (output : List ℕ) (decodes : de
 
     dna-decoded : (k d : ℕ) → k < dnaLength index sequence i
         → getD (decodeOutput index sequence i output) k d
-        ≡ correctedAt sequence (dnaEnd index i + 4) (entryWidth sequence (dnaEnd index i)) (entryCount sequence (dnaEnd index i) (rangeEnd index i)) k (baseAt sequence (sequenceStart index i) k)
+        ≡ correctedAt sequence (dnaEnd index i + 4) (entryWidth sequence (dnaEnd index i)) (entryCount sequence (dnaEnd index i) (rangeEnd index i)) k
+        (baseAt sequence (sequenceStart index i) k)
     dna-decoded k d h =
         code-at (dnaDecoded index sequence i) (residues-dna index sequence i t) (dnaLength index sequence i) dna-count dna-room k d h
         ∙ residue-at sequence (sequenceStart index i) (dnaEnd index i) (rangeEnd index i) (dnaLength index sequence i) range-holds k d h
@@ -102,7 +103,8 @@ module _ (index sequence : List ℕ) (i : ℕ) (output : List ℕ) (decodes : de
           let entry = correctionAt sequence (dnaEnd index i + 4) w j in
           entry .start ≤ k → k < entry .start + entry .length → getD (decodeOutput index sequence i output) k d ≡ ambiguityCode (entry .value)
       dna-covered j h a b =
-          let c = covered-residue sequence (dnaEnd index i) (rangeEnd index i) (dnaLength index sequence i) w n range-holds e k (baseAt sequence (sequenceStart index i) k) j h a b in
+          let c = covered-residue sequence (dnaEnd index i) (rangeEnd index i) (dnaLength index sequence i) w n range-holds e k
+          (baseAt sequence (sequenceStart index i) k) j h a b in
           dna-decoded k d (c .0) ∙ c .1
 
       -- the base where none does
@@ -113,7 +115,8 @@ module _ (index sequence : List ℕ) (i : ℕ) (output : List ℕ) (decodes : de
           → getD (decodeOutput index sequence i output) k d ≡ getD sequence (sequenceStart index i + k / 4) 0 / 4 ^ (3 - k % 4) % 4
       dna-base h o =
           dna-decoded k d h
-          ∙ base-residue sequence (dnaEnd index i) (rangeEnd index i) (dnaLength index sequence i) w n range-holds e k (baseAt sequence (sequenceStart index i) k) o
+          ∙ base-residue sequence (dnaEnd index i) (rangeEnd index i) (dnaLength index sequence i) w n range-holds e k
+          (baseAt sequence (sequenceStart index i) k) o
           ∙ base-of sequence (sequenceStart index i) k
 
     pub dna-rest : (k d : ℕ) → dnaLength index sequence i ≤ k → getD (decodeOutput index sequence i output) k d ≡ getD output k d

@@ -85,7 +85,8 @@ module _ {A : Type 0} (refused : A) where
       → cond (leb (length a) 2147483647) (cond (leb (length b) 2147483647) (cond (leb (length c) 2147483647) passed refused) refused) refused ≡ refused
   three a b c passed h = three-within 2147483647 (omega arith) a b c passed h
 
-  two : (a b : List ℕ) (passed : A) → SomeLarge (a ∷ b ∷ []) → cond (leb (length a) 2147483647) (cond (leb (length b) 2147483647) passed refused) refused ≡ refused
+  two : (a b : List ℕ) (passed : A) → SomeLarge (a ∷ b ∷ []) → cond (leb (length a) 2147483647)
+      (cond (leb (length b) 2147483647) passed refused) refused ≡ refused
   two a b passed (inl h) = rw (not-fit a h)
   two a b passed (inr (inl h)) = rw (not-fit b h, always)
 
@@ -111,7 +112,8 @@ module _ (index sequence header : List ℕ) (h : SomeLarge (index ∷ sequence �
   unfolding listedAnswer
   listing-large = ap volumeNumber (three-within _ mostListed (omega arith) index sequence header _ h)
 
-pub decode-large : (index sequence : List ℕ) (number room : ℕ) → SomeLarge (index ∷ sequence ∷ []) → decodeNumber (decodeAnswer index sequence number room) ≡ 22
+pub decode-large : (index sequence : List ℕ) (number room : ℕ) → SomeLarge (index ∷ sequence ∷ []) → decodeNumber
+    (decodeAnswer index sequence number room) ≡ 22
 unfolding decodeAnswer decodeRules
 decode-large index sequence number room h = ap decodeNumber (two _ sequence index _ (exchanged index sequence h))
 

@@ -39,7 +39,8 @@ numbers-append (rule ∷ rules) second = ap (λ (l : List ℕ). numberOf (rule .
 -- one rule for each sequence, all with one number
 numbers-each : (f : ℕ → List (Rule Refusal)) (number : ℕ) → ((k : ℕ) → numbersOf (f k) ≡ number ∷ []) → (n : ℕ) → numbersOf (rulesTo f n) ≡ replicate n number
 numbers-each f number h zero = refl
-numbers-each f number h (suc n) = numbers-append (rulesTo f n) (f n) ∙ rw (numbers-each f number h n, h n) (replicate-append-replicate n 1 number ∙ ap (λ (k : ℕ). replicate k number) (add-one n))
+numbers-each f number h (suc n) = numbers-append (rulesTo f n) (f n) ∙ rw (numbers-each f number h n, h n)
+    (replicate-append-replicate n 1 number ∙ ap (λ (k : ℕ). replicate k number) (add-one n))
 
 -- ---- packing and unpacking
 
@@ -80,11 +81,13 @@ module _ (index sequence header : List ℕ) where
   dna-volume-numbers t = rw t
 
   -- then 13 for the console's results
-  pub gull-check-volume-numbers : (results : ℕ) → numbersOf (volumeRules index sequence header ++ resultsRule 8 results) ≡ numbersOf (volumeRules index sequence header) ++ (13 ∷ [])
+  pub gull-check-volume-numbers : (results : ℕ) → numbersOf (volumeRules index sequence header ++ resultsRule 8 results) ≡ numbersOf
+      (volumeRules index sequence header) ++ (13 ∷ [])
   gull-check-volume-numbers results = numbers-append (volumeRules index sequence header) (resultsRule 8 results)
 
   -- a listing asks the sizes of its own first
-  pub listed-numbers : numbersOf (listingSizeRules index sequence header ++ volumeRules index sequence header) ≡ 22 ∷ 22 ∷ 22 ∷ numbersOf (volumeRules index sequence header)
+  pub listed-numbers : numbersOf (listingSizeRules index sequence header ++ volumeRules index sequence header) ≡ 22 ∷ 22 ∷ 22 ∷ numbersOf
+      (volumeRules index sequence header)
   listed-numbers = refl
 
 -- both files, the index, 10, 7, for protein 8 and 11, for DNA 12, 13
@@ -135,7 +138,8 @@ module _ (index metadata sequence : List ℕ) where
       simp (numbers-append, file-numbers, layout-numbers, ends-numbers, run-numbers, record-numbers, total-numbers)
 
 -- 22; count 4; index short 1, long 6; 10; 7 for the metadata end and the packet end
-pub lookup-numbers : (set : SetRecord) (index : List ℕ) (number : ℕ) → numbersOf (lookupRules set index number) ≡ 22 ∷ 4 ∷ 1 ∷ 6 ∷ 10 ∷ 7 ∷ 7 ∷ 7 ∷ 7 ∷ 7 ∷ 7 ∷ []
+pub lookup-numbers : (set : SetRecord) (index : List ℕ) (number : ℕ) → numbersOf
+    (lookupRules set index number) ≡ 22 ∷ 4 ∷ 1 ∷ 6 ∷ 10 ∷ 7 ∷ 7 ∷ 7 ∷ 7 ∷ 7 ∷ 7 ∷ []
 unfolding lookupRules countRules partRules
 lookup-numbers set index number = refl
 

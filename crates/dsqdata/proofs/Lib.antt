@@ -13,3 +13,4 @@ pub mod Parted
 pub mod SetRules
 pub mod Demand
 pub mod LookupRules
+pub mod Totals

@@ -20,8 +20,8 @@ use Rattle.residues.specs.Alphabets.{isAlphabet}
 use Rattle.dsqdata.specs.declared.SetRecord.{SetRecord}
 use Rattle.dsqdata.specs.declared.SetAnswer.the-variants as S
 use Rattle.dsqdata.specs.declared.LookupAnswer.the-variants as L
-use Rattle.dsqdata.specs.declared.runs.Runs.{Runs}
-use Rattle.dsqdata.specs.declared.runs.Runs.the-variants as U
+use Rattle.dsqdata.specs.declared.set_runs.Runs.{Runs}
+use Rattle.dsqdata.specs.declared.set_runs.Runs.the-variants as U
 use Rattle.dsqdata.specs.declared.records.Records.{Records}
 use Rattle.dsqdata.specs.declared.records.Records.the-variants as M
 use Rattle.dsqdata.specs.declared.ends.Part.{Part}
@@ -35,7 +35,7 @@ use Rattle.dsqdata.specs.Scans.{runsTo, recordsTo}
 use Rattle.dsqdata.specs.Lookup.{partRules, partOf, foundAt, lookupRules, lookupOf}
 use Rattle.dsqdata.proofs.Chain.{stopped, passed, stopped-last, passed-last}
 use Rattle.dsqdata.proofs.Wholes.{runs-refused, runs-totals, records-refused, records-longest, part-refused, part-last, part-found}
-use Rattle.dsqdata.proofs.Wholes.{totals-are, rest-is, small-files, count-small}
+use Rattle.dsqdata.proofs.Wholes.{totals-are, rest-is, sequence-small, count-small}
 
 -- ---- the files
 
@@ -120,6 +120,10 @@ module _ (i s : List ℕ) {set : SetRecord} (q : set ≡ recordOf i) {x : Bool} 
 
 -- ---- the content
 
+-- a record has as few sequences as its index
+pub few-of : (i : List ℕ) {set : SetRecord} {n : ℕ} → set ≡ recordOf i → countOf i ≤ n → set .count ≤ n
+few-of i q h = rw q h
+
 -- the ends of a table, counted and sized as the set check does
 pub ends-here : (i : List ℕ) (t size : ℕ) {set : SetRecord} {n : ℕ} {c : Checked} → set ≡ recordOf i → n ≡ size
     → c ≡ checkedBy (endsRules i t (set .count) n) → c ≡ checkedBy (endsRules i t (countOf i) size)
@@ -187,10 +191,9 @@ module _ (i m s : List ℕ) {a : Checked} (ea : a ≡ checkedBy (fileRules i m s
         (stopped S.Refused (S.Passed (recordOf i)) (layoutRules i s) eb (contentRules i m s) p)
 
     -- the bounds that the content relies on
-    pub set-bounds : b ≡ C.Passed → (countOf i ≤ 134217728) × (length m ≤ 2147483647) × (length s ≤ 2147483647)
+    pub set-bounds : b ≡ C.Passed → (countOf i ≤ 134217728) × (length s ≤ 2147483647)
     set-bounds p =
-        let z = small-files i m s (all-hold (fileRules i m s) a ea pa) in
-        (count-small i s (all-hold (layoutRules i s) b eb p), z .1, z .2)
+        (count-small i s (all-hold (layoutRules i s) b eb p), sequence-small i m s (all-hold (fileRules i m s) a ea pa))
 
     module _ (pb : b ≡ C.Passed) {c : Checked} (ec : c ≡ checkedBy (contentRules i m s)) where
       behind-layout : {d : _} → d ≡ verdict S.Refused (S.Passed (recordOf i)) (contentRules i m s) → d ≡ setCheck i m s

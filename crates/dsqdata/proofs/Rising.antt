@@ -28,7 +28,7 @@ use Rattle.dsqdata.specs.Ends.{packetTable, endBefore, risesAt, runAt, r
 use Rattle.dsqdata.specs.Check.{endsRules}
 use Rattle.dsqdata.specs.Rules.{EndsRule}
 use Rattle.dsqdata.proofs.Bodies.{body-length}
-use Rattle.dsqdata.proofs.Signs.{again}
+use Rattle.dsqdata.proofs.Signs.{again, after-small}
 
 module _ (index : List ℕ) (table : ℕ) where
   pub end-zero : (k : ℕ) → k ≡ 0 → endBefore index table k ≡ negsuc 0
@@ -51,6 +51,10 @@ module _ (index : List ℕ) (table : ℕ) where
   pub end-after : (k r : ℕ) (z : ℤ) → r ≡ after (toZ w64 (ofZ w64 z)) → mag z < 2 ^ 63 → z ≡ setSigned 8 index (table + 16 * k)
       → r ≡ after (endBefore index table (suc k))
   end-after k r z e h p = e ∙ ap after (again w64 z (endBefore index table (suc k)) h (p ∙ sym (end-suc k)))
+
+  -- no end that the index can state lies past 2^63
+  pub end-most : (r : ℕ) (z : ℤ) → r ≡ after (toZ w64 (ofZ w64 z)) → mag z < 2 ^ 63 → r ≤ 9223372036854775808
+  end-most r z e h = rw (e, again w64 z z h refl) (after-small z h)
 
   -- the test of a loop that keeps the end before
   pub rises-is : (k : ℕ) {b z : ℤ} (v : Bool) → b ≡ endBefore index table k → mag z < 2 ^ 63 → z ≡ setSigned 8 index (table + 16 * k)

@@ -1,7 +1,7 @@
 -- Ends as the machine holds signed numbers. Assumes nothing.
 use mathlib.Core.Path.{_≡_, refl, sym, ap, _∙_}
 use mathlib.Core.Bool.{Bool, true, false, not}
-use Prim.Native.Nat.{ℕ, _+_, _^_, _<_}
+use Prim.Native.Nat.{ℕ, _+_, _^_, _≤_, _<_}
 use native.Mathlib.Omega.{arith}
 use lib.IntN.{ℤ, pos, negsuc, natAbs}
 use lib.Dec.{T, ltb, leb}
@@ -34,6 +34,10 @@ pos-cast (negsuc n) l h = never (sym h)
 pos-fits : (e : ℤ) → mag e < 9223372036854775808 → ltZ e (pos 0) ≡ false → Fits w64 (natAbs e + 1)
 pos-fits (pos n) l h = record { fits = omega arith }
 pos-fits (negsuc n) l h = never (sym h)
+
+pub after-small : (e : ℤ) → mag e < 9223372036854775808 → after e ≤ 9223372036854775808
+after-small (pos n) l = omega arith
+after-small (negsuc n) l = omega arith
 
 module _ (e : ℤ) (f : SFits w64 e) where
   pub neg-after : ltZ (toZ w64 (ofZ w64 e)) (pos 0) ≡ true → 0 ≡ after e

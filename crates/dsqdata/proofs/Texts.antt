@@ -23,28 +23,14 @@ use Rattle.dsqdata.specs.Records.{textsAt}
 use Rattle.dsqdata.specs.Check.{endsRules, rulesOfRecord}
 use Rattle.dsqdata.proofs.Rising.{end-after, ends-rule, ends-within}
 
-texts-are : (index metadata : List ℕ) (k from to : ℕ) (r x : Texts) → from ≡ metadataStart index k
-    → to ≡ after (endBefore index metadataTable (suc k)) → r ≡ textsIn metadata from (8 + to) → r ≡ x → textsAt index metadata k ≡ x
-unfolding textsAt
-texts-are index metadata k from to r x e f p q = rw (← e, ← f) (sym p ∙ q)
+-- a turn over the records: what it reads of number k, by the places of the record
+module _ (index metadata : List ℕ) (k : ℕ) {from to : ℕ} (e : from ≡ metadataStart index k) (f : to ≡ metadataStart index (suc k)) where
+  pub record-next : to ≡ metadataStart index (k + 1)
+  record-next = f ∙ ap (metadataStart index) (sym (add-one k))
 
--- a turn over the records: what it reads of number k, by the end that it reads first
-module _ (index metadata : List ℕ) (k : ℕ) {from to : ℕ} {z : ℤ} (e : from ≡ metadataStart index k)
-    (g : to ≡ after (toZ w64 (ofZ w64 z))) (f : mag z < 2 ^ 63) (p : z ≡ setSigned 8 index (metadataTable + 16 * k)) where
-  pub record-to : to ≡ after (endBefore index metadataTable (suc k))
-  record-to = end-after index metadataTable k to z g f p
-
-  pub record-next : 8 + to ≡ metadataStart index (k + 1)
-  record-next = ap (λ (n : ℕ). 8 + n) (record-to ∙ ap (λ (n : ℕ). after (endBefore index metadataTable n)) (sym (add-one k)))
-
-  -- no record lies past the file's body
-  pub record-within : (n : ℕ) → k < n → AllHold (endsRules index metadataTable n (bytesAfterHeader metadata)) → to ≤ bytesAfterHeader metadata
-  record-within n l h =
-      let w = ends-within index metadataTable n (bytesAfterHeader metadata) (ends-rule index metadataTable n (bytesAfterHeader metadata) h) (suc k) l in
-      rw record-to w
-
-  pub record-read : {r x : Texts} → r ≡ textsIn metadata from (8 + to) → r ≡ x → textsAt index metadata k ≡ x
-  record-read q h = texts-are index metadata k from to _ _ e record-to q h
+  pub record-read : {r x : Texts} → r ≡ textsIn metadata from to → r ≡ x → textsAt index metadata k ≡ x
+  unfolding textsAt
+  record-read q h = rw (← e, ← f) (sym q ∙ h)
 
 module _ {m : Texts} {n a d : ℕ} (g : m ≡ Lengths n a d) where
   pub texts-good : isGood m ≡ true

@@ -6,6 +6,7 @@ use Prim.Native.Nat.{ℕ, suc, _≤_}
 use lib.IntN.{pos, negsuc}
 use lib.Signed.{ltZ, leZ}
 use lib.ListN.{length}
+use lib.Seq.{slice}
 use borrow.Author.Tests.{leb-true}
 use native.Mathlib.Omega.{arith}
 use Rattle.laws.specs.Places.{sumTo, largestTo}
@@ -18,24 +19,26 @@ use Rattle.answers.specs.declared.Refusal.the-variants.{BadOffsets, BadRun}
 use Rattle.answers.specs.declared.Checked.the-variants as C
 use Rattle.answers.specs.Limits.{checkedBy}
 use Rattle.packets.specs.Runs.{unpacked}
+use Rattle.packets.specs.Ends.{after}
 use Rattle.packets.specs.Reading.{runLength}
 use Rattle.packets.specs.declared.RunLength.{RunLength}
 use Rattle.packets.specs.declared.RunLength.the-variants.{Residues, NoRun}
 use Rattle.packets.proofs.Reading.{read-formed, read-not}
 use Rattle.dsqdata.specs.declared.SetRecord.{SetRecord}
-use Rattle.dsqdata.specs.declared.runs.Runs.{Runs}
-use Rattle.dsqdata.specs.declared.runs.Runs.the-variants as U
+use Rattle.dsqdata.specs.declared.set_runs.Runs.{Runs}
+use Rattle.dsqdata.specs.declared.set_runs.Runs.the-variants as U
 use Rattle.dsqdata.specs.declared.records.Records.{Records}
 use Rattle.dsqdata.specs.declared.records.Records.the-variants as M
 use Rattle.dsqdata.specs.declared.ends.Part.{Part}
 use Rattle.dsqdata.specs.declared.ends.Part.the-variants as P
-use Rattle.dsqdata.specs.Header.{countOf, recordOf}
-use Rattle.dsqdata.specs.Ends.{endBefore, residuesAt}
+use Rattle.dsqdata.specs.Header.{countOf, recordOf, bodyOf}
+use Rattle.dsqdata.specs.Ends.{packetTable, endBefore, runAt, residuesAt}
 use Rattle.dsqdata.specs.Records.{nameAt, accessionAt, descriptionAt}
 use Rattle.dsqdata.specs.Check.{sizeRules, startRules, tagRules, fileRules, headerRules, countRules, bodyRules, layoutRules}
 use Rattle.dsqdata.specs.Check.{rulesTo, rulesOfRun, runRulesTo, rulesOfRecord, statedRules, totalRules, behindRuns, restRules}
 use Rattle.dsqdata.specs.Scans.{runsTo, recordsTo}
 use Rattle.dsqdata.specs.Lookup.{partRules, startAt, lengthAt, partOf}
+use Rattle.dsqdata.proofs.Rising.{run-read}
 
 clash : {A : Type 0} → _≡_ {A = ℕ} 0 1 → A
 clash e = absurd (let z : ⊥ = omega arith in z)
@@ -43,13 +46,25 @@ clash e = absurd (let z : ⊥ = omega arith in z)
 -- ---- the runs
 
 module _ (a : ℕ) (ps : List ℕ) (x : RunLength) (e : x ≡ runLength a ps) where
-  pub run-refused : x ≡ NoRun → C.Refused BadRun ≡ checkedBy (rulesOfRun a ps)
+  run-refused : x ≡ NoRun → C.Refused BadRun ≡ checkedBy (rulesOfRun a ps)
   unfolding rulesOfRun
   run-refused f = rw (read-not a ps x e f)
 
-  pub run-passed : (n : ℕ) → x ≡ Residues n → AllHold (rulesOfRun a ps) × (n ≡ length (unpacked ps))
+  run-passed : (n : ℕ) → x ≡ Residues n → AllHold (rulesOfRun a ps) × (n ≡ length (unpacked ps))
   unfolding rulesOfRun
   run-passed n f = let g = read-formed a ps x e n f in ((g .0, tt), g .1)
+
+-- a turn over the runs: what it reads of number k, by the places of the run
+abbrev pub RunPassed : List ℕ → List ℕ → ℕ → ℕ → ℕ → Type 0
+RunPassed i s a k n = AllHold (rulesOfRun a (runAt i s k)) × (n ≡ residuesAt i s k)
+
+module _ (i s : List ℕ) (a k : ℕ) {from to : ℕ} {x : RunLength} (e : from ≡ after (endBefore i packetTable k))
+    (f : to ≡ after (endBefore i packetTable (suc k))) (r : x ≡ runLength a (slice from to (bodyOf s))) where
+  pub run-bad : x ≡ NoRun → C.Refused BadRun ≡ checkedBy (rulesOfRun a (runAt i s k))
+  run-bad g = run-refused a (runAt i s k) x (run-read i s k a from to x e f r) g
+
+  pub run-good : {n : ℕ} → x ≡ Residues n → RunPassed i s a k n
+  run-good g = run-passed a (runAt i s k) x (run-read i s k a from to x e f r) _ g
 
 module _ (i s : List ℕ) (a n : ℕ) (c : Runs) (e : c ≡ runsTo i s a n) where
   pub runs-refused : (r : Refusal) → c ≡ U.Refused r → (more : List (Rule Refusal)) {B : Type 0} (told : Refusal → B) (fine : B)
@@ -135,11 +150,11 @@ pub rest-is : (i m s : List ℕ) (x y : ℕ) → x ≡ sumTo (residuesAt i s) (c
 unfolding restRules
 rest-is i m s x y e f = rw (e, f)
 
-pub small-files : (i m s : List ℕ) → AllHold (fileRules i m s) → (length i ≤ 2147483647) × (length m ≤ 2147483647) × (length s ≤ 2147483647)
+pub sequence-small : (i m s : List ℕ) → AllHold (fileRules i m s) → length s ≤ 2147483647
 unfolding fileRules sizeRules
-small-files i m s h =
+sequence-small i m s h =
     let p = hold-first (sizeRules i m s) (startRules 52 i ++ (startRules 8 m ++ (startRules 8 s ++ tagRules i m s))) h in
-    (leb-true _ _ (p .0), leb-true _ _ (p .1 .0), leb-true _ _ (p .1 .1 .0))
+    leb-true _ _ (p .1 .1 .0)
 
 pub count-small : (i s : List ℕ) → AllHold (layoutRules i s) → countOf i ≤ 134217728
 unfolding layoutRules countRules

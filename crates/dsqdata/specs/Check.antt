@@ -9,7 +9,8 @@ use Rattle.laws.specs.Rules.{Rule, ask, verdict}
 use Rattle.answers.specs.Limits.{bytesFit}
 use Rattle.answers.specs.Numbers.{numberOf}
 use Rattle.answers.specs.declared.Refusal.{Refusal}
-use Rattle.answers.specs.declared.Refusal.the-variants.{TooShort, WrongKind, OutOfRange, Leftover, BadOffsets, WrongTotals, WrongMagic, TagsDiffer, BadRun, BadMetadata, TooLarge}
+use Rattle.answers.specs.declared.Refusal.the-variants.{TooShort, WrongKind, OutOfRange, Leftover, BadOffsets, WrongTotals}
+use Rattle.answers.specs.declared.Refusal.the-variants.{WrongMagic, TagsDiffer, BadRun, BadMetadata, TooLarge}
 use Rattle.residues.specs.Alphabets.{isAlphabet}
 use Rattle.packets.specs.Runs.{wellFormed}
 use Rattle.metadata.specs.Record.{isGood}

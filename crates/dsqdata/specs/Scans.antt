@@ -4,8 +4,8 @@ use mathlib.Core.List.{List}
 use Prim.Native.Nat.{ℕ}
 use Rattle.laws.specs.Places.{sumTo, largestTo}
 use Rattle.laws.specs.Rules.{verdict}
-use Rattle.dsqdata.specs.declared.runs.Runs.{Runs}
-use Rattle.dsqdata.specs.declared.runs.Runs.the-variants as U
+use Rattle.dsqdata.specs.declared.set_runs.Runs.{Runs}
+use Rattle.dsqdata.specs.declared.set_runs.Runs.the-variants as U
 use Rattle.dsqdata.specs.declared.records.Records.{Records}
 use Rattle.dsqdata.specs.declared.records.Records.the-variants as M
 use Rattle.dsqdata.specs.Ends.{residuesAt}

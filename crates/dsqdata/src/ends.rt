@@ -3,7 +3,7 @@ use crate::header::signed8;
 use answers::Checked;
 use answers::Refusal;
 ghost use mathlib.Core.Path.{_≡_};
-ghost use Prim.Native.Nat.{_≤_, _<_};
+ghost use Prim.Native.Nat.{suc, _≤_, _<_};
 ghost use Rattle.answers.specs.Limits.{checkedBy};
 ghost use Rattle.packets.specs.Ends.{after};
 ghost use Rattle.dsqdata.specs.Ends.{endBefore};
@@ -31,6 +31,15 @@ pub(crate) fn after_end(end: i64) -> u64
         return 0;
     }
     (end as u64) + 1
+}
+
+// The place after the end of number k of a table.
+pub(crate) fn place_after(index: &[u8], table: usize, k: usize) -> u64
+    requires { ⌜ (table ≤ 60) × (k < 134217728) ⌝ }
+    ensures value { λ r. ⌜ r ≡ after (endBefore (now (index .entry)) table (suc k)) ⌝ }
+    ensures most { λ r. ⌜ r ≤ 9223372036854775808 ⌝ }
+{
+    after_end(signed8(index, table + ENDS * k))
 }
 
 // The end before number k of a table; before the first stands -1.

@@ -16,7 +16,7 @@ const MOST_SEQUENCES: u64 = 134217728;
 // The bytes of the index before its ends, and of the other files before their bodies.
 const INDEX_HEADER: usize = 52;
 
-const FILE_HEADER: usize = 8;
+pub(crate) const FILE_HEADER: usize = 8;
 
 // What every file of a set begins with.
 const MAGIC: u32 = 0xc4d3d1b1;

@@ -8,7 +8,7 @@ use ends::PACKET_TABLE;
 use ends::Part;
 use packets::BytePos;
 use packets::PacketPos;
-use runs::Runs;
+use set_runs::Runs;
 ghost use mathlib.Core.Path.{_≡_};
 ghost use Prim.Native.Nat.{_≤_};
 ghost use lib.ListN.{length};
@@ -20,7 +20,7 @@ ghost use Rattle.dsqdata.specs.Lookup.{lookupOf};
 mod ends;
 mod header;
 mod records;
-mod runs;
+mod set_runs;
 
 // The ten header fields of a set, in file order.
 pub struct SetRecord {
@@ -72,8 +72,7 @@ fn check_packet_ends(index: &[u8], sequence: &[u8], set: SetRecord) -> Checked
 
 // The rules of the ends, the runs, the metadata records and the totals.
 fn check_content(index: &[u8], metadata: &[u8], sequence: &[u8], set: SetRecord) -> Checked
-    requires { ⌜ (set ≡ recordOf (now index)) × (countOf (now index) ≤ 134217728) ⌝ }
-    requires { ⌜ (length (now metadata) ≤ 2147483647) × (length (now sequence) ≤ 2147483647) ⌝ }
+    requires { ⌜ (set ≡ recordOf (now index)) × (countOf (now index) ≤ 134217728) × (length (now sequence) ≤ 2147483647) ⌝ }
     ensures { λ r. ⌜ r ≡ checkedBy (contentRules (now (index .entry)) (now (metadata .entry)) (now (sequence .entry))) ⌝ }
 {
     let metadata_ends = check_metadata_ends(index, metadata, set);
@@ -84,10 +83,10 @@ fn check_content(index: &[u8], metadata: &[u8], sequence: &[u8], set: SetRecord)
     if let Checked::Refused(r) = packet_ends {
         return Checked::Refused(r);
     }
-    let runs = runs::check_runs(index, sequence, set.alphabet, set.count as usize);
+    let runs = set_runs::check_runs(index, sequence, set.alphabet, set.count as usize);
     match runs {
         Runs::Refused(r) => Checked::Refused(r),
-        Runs::Totals(residues, longest) => {
+        Runs::Totals { residues, longest } => {
             records::check_rest(index, metadata, set, residues, longest)
         }
     }

@@ -1,26 +1,20 @@
 // The rules of a set behind its runs: the metadata records and the stated totals.
 use crate::SetRecord;
-use crate::ends::ENDS;
 use crate::ends::METADATA_TABLE;
-use crate::ends::after_end;
-use crate::header::signed8;
-use crate::runs::larger;
+use crate::ends::place_after;
+use crate::header::FILE_HEADER;
+use crate::set_runs::larger;
 use answers::Checked;
 use answers::Refusal;
 use metadata::Texts;
 use packets::BytePos;
 ghost use mathlib.Core.Path.{_≡_};
-ghost use Prim.Native.Nat.{_≤_};
-ghost use lib.ListN.{length};
-ghost use Rattle.laws.specs.Rules.{AllHold};
+ghost use Prim.Native.Nat.{suc, _≤_, _<_};
 ghost use Rattle.answers.specs.Limits.{checkedBy};
-ghost use Rattle.dsqdata.specs.Header.{recordOf, countOf, bytesAfterHeader};
-ghost use Rattle.dsqdata.specs.Ends.{metadataTable};
-ghost use Rattle.dsqdata.specs.Check.{endsRules, statedRules, behindRuns};
+ghost use Rattle.dsqdata.specs.Header.{recordOf, countOf};
+ghost use Rattle.dsqdata.specs.Ends.{metadataStart};
+ghost use Rattle.dsqdata.specs.Check.{statedRules, behindRuns};
 ghost use Rattle.dsqdata.specs.Scans.{recordsTo};
-
-// Where the records of a metadata file begin, behind its header.
-const FIRST_RECORD: u64 = 8;
 
 // The longest name, accession and description of all metadata records.
 pub(crate) enum Records {
@@ -32,19 +26,26 @@ pub(crate) enum Records {
     Refused(Refusal),
 }
 
+// The byte behind the metadata record of number k.
+fn record_end(index: &[u8], k: usize) -> BytePos
+    requires { ⌜ k < 134217728 ⌝ }
+    ensures { λ r. ⌜ r .0 ≡ metadataStart (now (index .entry)) (suc k) ⌝ }
+{
+    BytePos(FILE_HEADER as u64 + place_after(index, METADATA_TABLE, k))
+}
+
 // Reads all metadata records between the metadata ends.
 fn check_records(index: &[u8], metadata: &[u8], n: usize) -> Records
-    requires { ⌜ (n ≤ 134217728) × (length (now metadata) ≤ 2147483647) ⌝ }
-    requires { ⌜ AllHold (endsRules (now index) metadataTable n (bytesAfterHeader (now metadata))) ⌝ }
+    requires { ⌜ n ≤ 134217728 ⌝ }
     ensures { λ r. ⌜ r ≡ recordsTo (now (index .entry)) (now (metadata .entry)) n ⌝ }
 {
     let mut name: usize = 0;
     let mut accession: usize = 0;
     let mut description: usize = 0;
-    let mut from = BytePos(FIRST_RECORD);
+    let mut from = BytePos(FILE_HEADER as u64);
     let mut k: usize = 0;
     while k < n {
-        let to = BytePos(FIRST_RECORD + after_end(signed8(index, METADATA_TABLE + ENDS * k)));
+        let to = record_end(index, k);
         let Texts::Lengths {
             name: a,
             accession: b,
@@ -103,8 +104,7 @@ pub(crate) fn check_rest(
     residues: usize,
     longest: usize,
 ) -> Checked
-    requires { ⌜ (set ≡ recordOf (now index)) × (countOf (now index) ≤ 134217728) × (length (now metadata) ≤ 2147483647) ⌝ }
-    requires { ⌜ AllHold (endsRules (now index) metadataTable (countOf (now index)) (bytesAfterHeader (now metadata))) ⌝ }
+    requires { ⌜ (set ≡ recordOf (now index)) × (countOf (now index) ≤ 134217728) ⌝ }
     ensures { λ r. ⌜ r ≡ checkedBy (behindRuns (now (index .entry)) (now (metadata .entry)) residues longest) ⌝ }
 {
     let records = check_records(index, metadata, set.count as usize);

@@ -9,8 +9,10 @@ use lib.ListN.{length, getD, List·getD-eq-default}
 use lib.Dec.{ltb, leb}
 use borrow.Author.Tests.{le-leb, lt-leb, leb-true, leb-false}
 use lib.IntN.{ℤ}
+use lib.Signed.{mag}
 use mir.Syntax.{Width, w8, w16, w32, w64, w128}
-use mir.Val.{toZ, sel, bytes}
+use mir.Val.{toZ, ofZ, sel, bytes, hbits}
+use mir.ValLaws.{toZ-ofZ}
 use Rattle.laws.specs.Digits.{value}
 use Rattle.laws.specs.Writing.{writtenAt}
 use Rattle.laws.proofs.Tests.{bool-cases}
@@ -34,11 +36,11 @@ machine-signed w32 n = sel-cond (ltb n 2147483648) _ _
 machine-signed w64 n = sel-cond (ltb n 9223372036854775808) _ _
 machine-signed w128 n = sel-cond (ltb n (2 ^ 127)) _ _
 
--- a signed field is its unsigned one in two's complement, in every order and at every width
-pub signed-field : (order : Order) (w : ℕ) {r : ℤ} {u : ℕ} (file : List ℕ) (at : ℕ) → r ≡ signed w u → u ≡ unsignedAt order w file at
-    → r ≡ signedAt order w file at
+-- a signed field is its unsigned one in two's complement, read again from the machine's bits, in every order and at every width
+pub signed-field : (order : Order) (w : Width) (file : List ℕ) (at : ℕ) {r : ℤ} {u : ℕ} → mag r < 2 ^ hbits w → r ≡ signed (bytes w) u
+    → u ≡ unsignedAt order (bytes w) file at → toZ w (ofZ w r) ≡ signedAt order (bytes w) file at
 unfolding signedAt
-signed-field order w file at e f = e ∙ ap (signed w) f
+signed-field order w file at h e f = toZ-ofZ w _ (record { sfits = h }) ∙ (e ∙ ap (signed (bytes w)) f)
 
 -- the complement of the complement, as the code makes a negative number
 pub signed-high : (w : Width) (m n : ℕ) → n ≤ m → toZ w (m - (m - n)) ≡ signed (bytes w) n

@@ -171,18 +171,18 @@ pub fn be_i32(s: &[u8], at: usize) -> i32
     signed4(be_u32(s, at))
 }
 
-// The two's complement field of four bytes at a place, little-endian.
-pub fn le_i32(s: &[u8], at: usize) -> i32
-    ensures { λ r. ⌜ r ≡ signedAt little 4 (now (s .entry)) at ⌝ }
-{
-    signed4(le_u32(s, at))
-}
-
 // The two's complement field of eight bytes at a place, big-endian.
 pub fn be_i64(s: &[u8], at: usize) -> i64
     ensures { λ r. ⌜ r ≡ signedAt big 8 (now (s .entry)) at ⌝ }
 {
     signed8(be_u64(s, at))
+}
+
+// The two's complement field of four bytes at a place, little-endian.
+pub fn le_i32(s: &[u8], at: usize) -> i32
+    ensures { λ r. ⌜ r ≡ signedAt little 4 (now (s .entry)) at ⌝ }
+{
+    signed4(le_u32(s, at))
 }
 
 // The two's complement field of eight bytes at a place, little-endian.

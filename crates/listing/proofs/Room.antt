@@ -53,7 +53,15 @@ type-length kind = cond-elim (λ (l : List ℕ). length l ≤ 8) (eqb kind 1) {x
 
 head-length : (v : VolumeRecord) → length (headText v) ≤ 71
 head-length v =
-    omega (arith, head-size v, type-length (v .kind), number-length (v .sequences) space, number-length (v .residues) space, number-length (v .longest) lineFeed)
+    omega (
+      arith,
+      head-size v,
+      type-length (v .kind),
+      number-length (v .sequences) space,
+      number-length (v .residues) space,
+      number-length
+          (v .longest) lineFeed,
+    )
 
 pub refused-fits : (number : ℕ) → length (refusedText number) ≤ listingRoom
 unfolding refusedText

@@ -74,7 +74,8 @@ decimal-more n h k =
 -- the first line is as long as its parts
 pub head-size : (v : VolumeRecord)
     → length (headText v)
-    ≡ length (typeText (v .kind)) + (length (numberThen (v .sequences) space) + (length (numberThen (v .residues) space) + length (numberThen (v .longest) lineFeed)))
+    ≡ length (typeText (v .kind)) +
+    (length (numberThen (v .sequences) space) + (length (numberThen (v .residues) space) + length (numberThen (v .longest) lineFeed)))
 unfolding headText
 head-size v = simp length-append
 

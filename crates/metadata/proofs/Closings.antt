@@ -1,30 +1,44 @@
 -- Texts that a NUL closes. Assumes nothing.
-use mathlib.Core.Path.{_≡_}
-use mathlib.Core.Bool.{Bool, true, false, cond}
+use mathlib.Core.Path.{_≡_, sym}
+use mathlib.Core.Bool.{Bool, true, false, not, cond, and-false, and-true}
 use mathlib.Core.List.{List}
 use Prim.Native.Nat.{ℕ, zero, suc, _+_, _-_, _≤_, _<_}
 use native.Mathlib.Omega.{arith}
 use native.Mathlib.Numerals.{add-one}
-use lib.Dec.{eqb, ltb}
+use lib.Dec.{eqb, leb}
 use lib.ListN.{getD}
-use borrow.Author.Tests.{eq-eqb, ne-eqb, le-leb, lt-leb, ltb-true, ltb-false}
-use Rattle.laws.proofs.Tests.{bool-cases}
+use borrow.Author.Tests.{eq-eqb, ne-eqb, le-leb, lt-leb, not-true}
+use Rattle.laws.proofs.Tests.{both-pass}
 use Rattle.metadata.specs.declared.Closing.the-variants.{At, Open}
-use Rattle.metadata.specs.Record.{textByte, closing}
+use Rattle.metadata.specs.Record.{textByte, staysIn, closing}
 
 -- ---- bytes of a name or an accession
 
 module _ (b : ℕ) where
-  pub name-space : b ≡ 32 → false ≡ textByte true b
+  pub name-letter : 32 < b → true ≡ staysIn true b
+  name-letter l =
+      let z : b ≡ 0 → ⊥ = λ e. omega arith in
+      let h : 13 < b = omega arith in
+      let n : b ≡ 32 → ⊥ = λ e. omega arith in
+      rw (ne-eqb b 0 z, lt-leb b 13 h, ne-eqb b 32 n, and-false (leb 9 b))
+
+  pub name-space : b ≡ 32 → false ≡ staysIn true b
   name-space e = rw e
 
-  pub name-low : (b ≡ 32 → ⊥) → b < 9 → true ≡ textByte true b
-  name-low n l = rw (ne-eqb b 32 n, lt-leb 9 b l)
+  pub name-control : (b ≡ 32 → ⊥) → 13 < b → true ≡ staysIn true b
+  name-control n l = let z : b ≡ 0 → ⊥ = λ e. omega arith in rw (ne-eqb b 0 z, lt-leb b 13 l, ne-eqb b 32 n, and-false (leb 9 b))
 
-  pub name-high : (b ≡ 32 → ⊥) → 9 ≤ b → ltb 13 b ≡ textByte true b
-  name-high n l =
-      bool-cases (ltb 13 b) (λ e. let h : 13 < b = ltb-true 13 b e in rw (e, ne-eqb b 32 n, le-leb 9 b l, lt-leb b 13 h))
-      (λ e. let h : b ≤ 13 = ltb-false 13 b e in rw (e, ne-eqb b 32 n, le-leb 9 b l, le-leb b 13 h))
+  pub name-blank : 8 < b → b ≤ 13 → false ≡ staysIn true b
+  name-blank l h =
+      let z : b ≡ 0 → ⊥ = λ e. omega arith in
+      let k : 9 ≤ b = omega arith in
+      rw (ne-eqb b 0 z, le-leb 9 b k, le-leb b 13 h)
+
+  pub name-low : b ≤ 8 → not (eqb b 0) ≡ staysIn true b
+  name-low l =
+      let n : b ≡ 32 → ⊥ = λ e. omega arith in
+      let h : b < 9 = omega arith in
+      rw (lt-leb 9 b h, ne-eqb b 32 n) (sym (and-true (not (eqb b 0))))
 
 -- ---- texts
 
@@ -35,11 +49,13 @@ module _ (w : Bool) (s : List ℕ) (p to : ℕ) where
   pub closing-here : p < to → getD s p 0 ≡ 0 → At p ≡ closing w s (to - p) p
   closing-here h e = rw (more h, eq-eqb _ _ e)
 
-  pub closing-stops : p < to → (getD s p 0 ≡ 0 → ⊥) → textByte w (getD s p 0) ≡ false → Open ≡ closing w s (to - p) p
-  closing-stops h e f = rw (more h, ne-eqb _ _ e, f)
+  pub closing-stops : p < to → (getD s p 0 ≡ 0 → ⊥) → staysIn w (getD s p 0) ≡ false → Open ≡ closing w s (to - p) p
+  closing-stops h e f = let g : textByte w (getD s p 0) ≡ false = rw (ne-eqb _ _ e) at f in rw (more h, ne-eqb _ _ e, g)
 
-  pub closing-next : p < to → (getD s p 0 ≡ 0 → ⊥) → textByte w (getD s p 0) ≡ true → closing w s (to - (p + 1)) (p + 1) ≡ closing w s (to - p) p
-  closing-next h e f = rw (more h, ne-eqb _ _ e, f, add-one p)
+  pub closing-next : p < to → staysIn w (getD s p 0) ≡ true → closing w s (to - (p + 1)) (p + 1) ≡ closing w s (to - p) p
+  closing-next h f =
+      let g = both-pass (not (eqb (getD s p 0) 0)) (textByte w (getD s p 0)) f in
+      rw (more h, not-true (eqb (getD s p 0) 0) (g .0), g .1, add-one p)
 
   pub closing-none : to ≤ p → Open ≡ closing w s (to - p) p
   closing-none h = let e : to - p ≡ 0 = omega arith in rw e

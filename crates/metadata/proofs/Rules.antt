@@ -22,20 +22,20 @@ use Rattle.metadata.proofs.Closings.{not-open, within}
 
 -- ---- bytes of a text
 
-byte-rule : (w : Bool) (b : ℕ) → (b ≡ 0 → ⊥) → textByte w b ≡ true → TextByte w b
+pub byte-rule : (w : Bool) (b : ℕ) → (b ≡ 0 → ⊥) → textByte w b ≡ true → TextByte w b
 byte-rule true b z h =
     let p = both-pass (not (leb 9 b && leb b 13)) (not (eqb b 32)) h in
     (z, (λ i j. never (sym (not-true (leb 9 b && leb b 13) (p .0)) ∙ rw (le-leb 9 b i, le-leb b 13 j))), eqb-false b 32 (not-true (eqb b 32) (p .1)))
 byte-rule false b z h = (z, eqb-false b 10 (not-true (eqb b 10) h))
 
-rule-byte : (w : Bool) (b : ℕ) → TextByte w b → textByte w b ≡ true
+pub rule-byte : (w : Bool) (b : ℕ) → TextByte w b → textByte w b ≡ true
 rule-byte true b h =
     bool-cases (leb 9 b)
     (λ e. bool-cases (leb b 13) (λ f. absurd (h .1 (leb-true 9 b e) (leb-true b 13 f))) (λ f. rw (e, f, ne-eqb b 32 (h .2))))
     (λ e. rw (e, ne-eqb b 32 (h .2)))
 rule-byte false b h = rw (ne-eqb b 10 (h .1))
 
-no-nul : (w : Bool) (b : ℕ) → TextByte w b → b ≡ 0 → ⊥
+pub no-nul : (w : Bool) (b : ℕ) → TextByte w b → b ≡ 0 → ⊥
 no-nul true b h = h .0
 no-nul false b h = h .0
 
@@ -55,7 +55,7 @@ closed-by w s n p q false true i j f h =
     }
 closed-by w s n p q false false i j f h = not-open h
 
-closed-text : (w : Bool) (s : List ℕ) (n p q : ℕ) → closing w s n p ≡ At q → Text w s p q
+pub closed-text : (w : Bool) (s : List ℕ) (n p q : ℕ) → closing w s n p ≡ At q → Text w s p q
 closed-text w s zero p q h = not-open h
 closed-text w s (suc n) p q h = closed-by w s n p q (eqb (getD s p 0) 0) (textByte w (getD s p 0)) refl refl (closed-text w s n (suc p) q) h
 
@@ -69,7 +69,7 @@ text-left w s (suc n) p q a b r =
     (text-left w s n (suc p) q l (omega arith) (record { bytes = λ k i j. r .bytes k (omega arith) j; closed = r .closed })))
     (eq-or-lt-of-le a)
 
-text-closed : (w : Bool) (s : List ℕ) (to p q : ℕ) → p ≤ q → q < to → Text w s p q → closing w s (to - p) p ≡ At q
+pub text-closed : (w : Bool) (s : List ℕ) (to p q : ℕ) → p ≤ q → q < to → Text w s p q → closing w s (to - p) p ≡ At q
 text-closed w s to p q a b r = text-left w s (to - p) p q a (omega arith) r
 
 -- ---- the taxonomy id

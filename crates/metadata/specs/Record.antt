@@ -6,6 +6,7 @@ use Prim.Native.Nat.{ℕ, zero, suc, _+_, _-_}
 use lib.Dec.{eqb, leb}
 use lib.IntN.{ℤ, pos, negsuc}
 use lib.ListN.{getD}
+use Rattle.laws.specs.Places.{every}
 use Rattle.answers.specs.Numbers.{numberOf}
 use Rattle.answers.specs.declared.Refusal.the-variants.{BadMetadata}
 use Rattle.metadata.specs.declared.Closing.{Closing}
@@ -25,6 +26,18 @@ descriptionByte b = not (eqb b 10)
 -- A byte may stand in a text: in a name or an accession, or in a description.
 abbrev pub textByte : Bool → ℕ → Bool
 textByte name b = cond name (nameByte b) (descriptionByte b)
+
+-- A byte stands in a text: it does not close it, and it may stand there.
+abbrev pub staysIn : Bool → ℕ → Bool
+staysIn name b = not (eqb b 0) && textByte name b
+
+-- So many bytes from a place on all stand in a text.
+abbrev pub allStay : Bool → List ℕ → ℕ → ℕ → Bool
+allStay name file from n = every (λ k. staysIn name (getD file (from + k) 0)) n
+
+-- The bytes from one place up to another are a text that the NUL there closes.
+abbrev pub isText : Bool → List ℕ → ℕ → ℕ → Bool
+isText name file from nul = eqb (getD file nul 0) 0 && allStay name file from (nul - from)
 
 -- Where the text from a place on is closed by NUL, with n bytes left; Open where a byte before may not stand in it, or no NUL comes.
 abbrev pub closing : Bool → List ℕ → ℕ → ℕ → Closing

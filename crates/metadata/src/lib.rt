@@ -2,10 +2,12 @@
 // The public function takes any bytes and any places.
 use packets::BytePos;
 ghost use mathlib.Core.Path.{_≡_};
-ghost use mathlib.Core.Bool.{true};
-ghost use Prim.Native.Nat.{_-_, _≤_, _<_};
+ghost use mathlib.Core.Bool.{true, false, not};
+ghost use Prim.Native.Nat.{_+_, _-_, _≤_, _<_, min};
+ghost use lib.Dec.{eqb};
+ghost use lib.ListN.{length};
 ghost use Rattle.metadata.specs.Fields.{setSigned};
-ghost use Rattle.metadata.specs.Record.{textByte, closing, isTaxonomy, behindDescription, behindAccession, behindName, textsIn};
+ghost use Rattle.metadata.specs.Record.{staysIn, allStay, isText, closing, isTaxonomy, behindDescription, behindAccession, behindName, textsIn};
 
 // Where the NUL stands that closes a text.
 pub(crate) enum Closing {
@@ -23,45 +25,103 @@ pub enum Texts {
     Bad,
 }
 
-// Whether a byte may stand in a name or an accession.
-fn name_byte(b: u8) -> bool
-    ensures { λ r. ⌜ r ≡ textByte true b ⌝ }
+// Whether a byte stands in a name or an accession. Letters are asked first.
+fn stays_in_name(b: u8) -> bool
+    ensures { λ r. ⌜ r ≡ staysIn true b ⌝ }
 {
+    if b > 32 {
+        return true;
+    }
     if b == 32 {
         return false;
     }
-    if b < 9 {
+    if b > 13 {
         return true;
     }
-    b > 13
-}
-
-// Whether a byte may stand in a text: in a name or an accession, or in a description.
-fn text_byte(name: bool, b: u8) -> bool
-    ensures { λ r. ⌜ r ≡ textByte name b ⌝ }
-{
-    if name {
-        return name_byte(b);
+    if b > 8 {
+        return false;
     }
-    b != 10
+    b != 0
 }
 
-// Where the text from one place on is closed, before another.
-fn closing_at(file: &[u8], name: bool, from: usize, to: usize) -> Closing
-    ensures { λ r. ⌜ r ≡ closing name (now (file .entry)) (to - from) from ⌝ }
+// The smaller of two numbers.
+fn smaller(a: usize, b: usize) -> usize
+    ensures { λ r. ⌜ r ≡ min a b ⌝ }
 {
+    if a < b {
+        return a;
+    }
+    b
+}
+
+// Where the name or accession from one place on is closed, before another. Past the file's end every byte is NUL.
+fn closing_at(file: &[u8], from: usize, to: usize) -> Closing
+    ensures { λ r. ⌜ r ≡ closing true (now (file .entry)) (to - from) from ⌝ }
+{
+    let end = smaller(to, file.len());
     let mut p = from;
-    while p < to {
-        let b = fields::byte(file, p);
-        if b == 0 {
-            return Closing::At(p);
-        }
-        if !text_byte(name, b) {
+    while p < end {
+        let b = file[p];
+        if !stays_in_name(b) {
+            if b == 0 {
+                return Closing::At(p);
+            }
             return Closing::Open;
         }
         p += 1;
     }
+    if p < to {
+        return Closing::At(p);
+    }
     Closing::Open
+}
+
+// A byte, or 0 where it does not stand in a description.
+fn described(b: u8) -> u8
+    ensures { λ r. ⌜ not (eqb r 0) ≡ staysIn false b ⌝ }
+{
+    if b == 10 {
+        return 0;
+    }
+    b
+}
+
+// The smaller of two bytes.
+fn smaller_byte(a: u8, b: u8) -> u8
+    ensures { λ r. ⌜ r ≡ min a b ⌝ }
+{
+    if a < b {
+        return a;
+    }
+    b
+}
+
+// Whether so many bytes from a place on all stand in a description. No byte ends the loop early, so that the compiler tests several at once.
+fn all_described(file: &[u8], from: usize, count: usize) -> bool
+    requires { ⌜ from + count ≤ length (now file) ⌝ }
+    ensures { λ r. ⌜ r ≡ allStay false (now (file .entry)) from count ⌝ }
+{
+    let mut least: u8 = 255;
+    let mut k: usize = 0;
+    while k < count {
+        least = smaller_byte(least, described(file[from + k]));
+        k += 1;
+    }
+    least != 0
+}
+
+// Whether the bytes from one place up to another are a description that the NUL there closes.
+fn is_description(file: &[u8], from: usize, nul: usize) -> bool
+    requires { ⌜ from ≤ nul ⌝ }
+    ensures { λ r. ⌜ r ≡ isText false (now (file .entry)) from nul ⌝ }
+{
+    if file.len() < nul {
+        return from == nul;
+    }
+    if fields::byte(file, nul) != 0 {
+        return false;
+    }
+    all_described(file, from, nul - from)
 }
 
 // The signed field of four bytes at a place.
@@ -81,14 +141,11 @@ fn is_taxonomy(id: i32) -> bool
     id > 0
 }
 
-// Reads behind the description, which is closed at d; name and accession are closed at n and a.
+// Reads behind the description, which is closed at d, four bytes before the end; name and accession are closed at n and a.
 fn behind_description(file: &[u8], from: usize, to: usize, n: usize, a: usize, d: usize) -> Texts
-    requires { ⌜ (from ≤ n) × (n < a) × (a < d) × (d < to) ⌝ }
+    requires { ⌜ (from ≤ n) × (n < a) × (a < d) × (d + 5 ≡ to) ⌝ }
     ensures { λ r. ⌜ r ≡ behindDescription (now (file .entry)) from to n a (Closing.At d) ⌝ }
 {
-    if to - d != 5 {
-        return Texts::Bad;
-    }
     if !is_taxonomy(signed4(file, d + 1)) {
         return Texts::Bad;
     }
@@ -99,14 +156,18 @@ fn behind_description(file: &[u8], from: usize, to: usize, n: usize, a: usize, d
     }
 }
 
-// Reads behind the accession, which is closed at a.
+// Reads behind the accession, which is closed at a: the description's NUL can stand at one place alone.
 fn behind_accession(file: &[u8], from: usize, to: usize, n: usize, a: usize) -> Texts
     requires { ⌜ (from ≤ n) × (n < a) × (a < to) ⌝ }
     ensures { λ r. ⌜ r ≡ behindAccession (now (file .entry)) from to n (Closing.At a) ⌝ }
 {
-    let Closing::At(d) = closing_at(file, false, a + 1, to) else {
+    if to - a < 6 {
         return Texts::Bad;
-    };
+    }
+    let d = to - 5;
+    if !is_description(file, a + 1, d) {
+        return Texts::Bad;
+    }
     behind_description(file, from, to, n, a, d)
 }
 
@@ -118,7 +179,7 @@ fn behind_name(file: &[u8], from: usize, to: usize, n: usize) -> Texts
     if n == from {
         return Texts::Bad;
     }
-    let Closing::At(a) = closing_at(file, true, n + 1, to) else {
+    let Closing::At(a) = closing_at(file, n + 1, to) else {
         return Texts::Bad;
     };
     behind_accession(file, from, to, n, a)
@@ -130,7 +191,7 @@ pub fn read_record(file: &[u8], start: BytePos, end: BytePos) -> Texts
 {
     let from = start.0 as usize;
     let to = end.0 as usize;
-    let Closing::At(n) = closing_at(file, true, from, to) else {
+    let Closing::At(n) = closing_at(file, from, to) else {
         return Texts::Bad;
     };
     behind_name(file, from, to, n)

@@ -1,12 +1,8 @@
 -- `dsqdata::check_content`: each part answers for its rules, and the first that refuses decides. Assumes nothing.
-use mathlib.Core.Path.{_≡_, ap}
-use native.Mathlib.Omega.{arith}
 use denote.Ref.{now}
 use Rattle.answers.proofs.Checks.{all-hold}
-use Rattle.dsqdata.specs.declared.SetRecord.{SetRecord}
-use Rattle.dsqdata.specs.Header.{countOf}
-use Rattle.dsqdata.specs.Check.{metadataEndsRules, packetEndsRules}
-use Rattle.dsqdata.proofs.Parted.{metadata-ends-stopped, packet-ends-stopped, runs-stopped, content-passed}
+use Rattle.dsqdata.specs.Check.{packetEndsRules}
+use Rattle.dsqdata.proofs.Parted.{few-of, metadata-ends-stopped, packet-ends-stopped, runs-stopped, content-passed}
 use borrow.Author.Needs.{needs}
 use Rattle.dsqdata.proofs.check_content.Statement.{statement}
 use Rattle.dsqdata.proofs.check_content.Tie as tie
@@ -45,16 +41,9 @@ enum-told-2 c = search needs
 check-runs-requires : tie.Need-check-runs-requires
 check-runs-requires c κs =
     let a = (c .before .before .before .before .before .before .before .before .before .args) in
-    let n : a .set .count ≡ countOf (now (a .index)) = ap (λ (x : SetRecord). x .count)
-    ((c .before .before .before .before .before .before .before .before .before .pre) .0 .0) in
-    let h = all-hold (packetEndsRules (now (a .index)) (now (a .sequence))) _ ((c .before .before .check-packet-ends) .ensures) ((c .enum-told2) .given .1) in (
-      (
-        omega (arith, (c .before .before .before .before .before .before .before .before .before .pre) .0 .1),
-        omega
-            (arith, (c .before .before .before .before .before .before .before .before .before .pre) .1 .1),
-      ),
-      rw n h,
-    )
+    let p = (c .before .before .before .before .before .before .before .before .before .pre) in
+    let h = all-hold (packetEndsRules (now (a .index)) (now (a .sequence))) _ ((c .before .before .check-packet-ends) .ensures) ((c .enum-told2) .given .1) in
+    ((few-of (now (a .index)) (p .0) (p .1), p .2), rw (p .0) h)
 
 enum-known-runs : tie.Need-enum-known-runs
 enum-known-runs c = search needs
@@ -64,17 +53,8 @@ enum-known-runs-2 c = search needs
 
 check-rest-requires : tie.Need-check-rest-requires
 check-rest-requires c κs =
-    let a = (c .before .before .before .before .before .before .before .before .before .before .before .before .before .args) in
-    let h = all-hold (metadataEndsRules (now (a .index)) (now (a .metadata))) _
-    ((c .before .before .before .before .before .before .before .before .before .check-metadata-ends) .ensures)
-    ((c .before .before .before .before .before .before .before .enum-told) .given .1) in (
-      (
-        (c .before .before .before .before .before .before .before .before .before .before .before .before .before .pre) .0 .0,
-        (c .before .before .before .before .before .before .before .before .before .before .before .before .before .pre) .0 .1,
-        (c .before .before .before .before .before .before .before .before .before .before .before .before .before .pre) .1 .0,
-      ),
-      h,
-    )
+    let p = (c .before .before .before .before .before .before .before .before .before .before .before .before .before .pre) in
+    (p .0, p .1)
 
 returns-3 : tie.Need-returns-3
 returns-3 c =
@@ -83,7 +63,7 @@ returns-3 c =
     ((c .before .before .before .before .before .before .before .before .before .check-metadata-ends) .ensures)
     ((c .before .before .before .before .before .before .before .enum-told) .given .1)
     ((c .before .before .before .before .before .before .check-packet-ends) .ensures) ((c .before .before .before .before .enum-told2) .given .1)
-    ((c .before .before .before .before .before .before .before .before .before .before .before .before .before .pre) .0 .0)
+    ((c .before .before .before .before .before .before .before .before .before .before .before .before .before .pre) .0)
     ((c .before .before .before .check-runs) .ensures) ((c .before .runs) .given .1)
 
 returns-4 : tie.Need-returns-4
@@ -94,7 +74,7 @@ returns-4 c =
     ((c .before .before .before .before .before .before .before .before .enum-told) .given .1)
     ((c .before .before .before .before .before .before .before .check-packet-ends) .ensures)
     ((c .before .before .before .before .before .enum-told2) .given .1)
-    ((c .before .before .before .before .before .before .before .before .before .before .before .before .before .before .pre) .0 .0)
+    ((c .before .before .before .before .before .before .before .before .before .before .before .before .before .before .pre) .0)
     ((c .before .before .before .before .check-runs) .ensures) ((c .before .before .runs2) .given .1) ((c .check-rest) .ensures)
 
 pub check-content-spec : {M : Type 1} → statement M

@@ -45,7 +45,7 @@ check-content-requires c κs =
     let b = set-bounds (now (a .index)) (now (a .metadata)) (now (a .sequence))
     ((c .before .before .before .before .before .before .check-files) .ensures) ((c .before .before .before .before .enum-told) .given .1)
     ((c .before .before .check-layout) .ensures) ((c .enum-told2) .given .1) in
-    (((c .before .before .before .read-record) .ensures, b .0), (b .1, b .2))
+    ((c .before .before .before .read-record) .ensures, b .0, b .1)
 
 enum-known-content : tie.Need-enum-known-content
 enum-known-content c = search needs

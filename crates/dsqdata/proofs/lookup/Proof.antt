@@ -1,5 +1,6 @@
 -- `dsqdata::lookup`: each test and each part answers for its rules, and the first that refuses decides. Assumes nothing.
 use denote.Ref.{now}
+use Prim.Native.Nat.{_<_}
 use native.Mathlib.Omega.{arith}
 use borrow.Author.Tests.{le-leb, lt-leb, lt-ltb, le-ltb}
 use Rattle.dsqdata.specs.Lookup.{lookupRules, lookupOf}
@@ -35,13 +36,17 @@ returns-3 c =
     ((c .before .before .before .before .check-count) .ensures)
     ((c .before .before .enum-told) .given .1) (le-ltb _ _ ((c .if2) .taken))
 
+-- the number is one that a set can have
+few : (c : tie.Else2) → c .before .before .before .before .before .before .before .args .number < 134217728
+few c =
+    let e = c .before .before .before .before in
+    let a = e .before .before .before .args in
+    let t = c .before .before .enum-told .given .1 in
+    let l = lookup-few (a .set) (now (a .index)) (a .number) (le-leb _ _ (e .before .if1 .left)) (e .check-count .ensures) t in
+    omega (arith, l, c .if2 .left)
+
 part-at-requires : tie.Need-part-at-requires
-part-at-requires c κs =
-    let a = (c .before .before .before .before .before .before .before .args) in
-    let few = lookup-few (a .set) (now (a .index)) (a .number) (le-leb _ _ ((c .before .before .before .before .before .if1) .left))
-    ((c .before .before .before .before .check-count) .ensures)
-    ((c .before .before .enum-told) .given .1) in
-    (omega arith, omega arith)
+part-at-requires c κs = (omega arith, few c)
 
 enum-known-start : tie.Need-enum-known-start
 enum-known-start c = search needs
@@ -58,13 +63,7 @@ returns-4 c =
     ((c .before .before .part-at) .ensures) ((c .enum-told2) .given .1)
 
 part-at-requires-2 : tie.Need-part-at-requires-2
-part-at-requires-2 c κs =
-    let a = (c .before .before .before .before .before .before .before .before .before .before .before .args) in
-    let few = lookup-few (a .set) (now (a .index)) (a .number)
-    (le-leb _ _ ((c .before .before .before .before .before .before .before .before .before .if1) .left))
-    ((c .before .before .before .before .before .before .before .before .check-count) .ensures)
-    ((c .before .before .before .before .before .before .enum-told) .given .1) in
-    (omega arith, omega arith)
+part-at-requires-2 c κs = (omega arith, few (c .before .before .before .before))
 
 enum-known-first : tie.Need-enum-known-first
 enum-known-first c = search needs

@@ -1,5 +1,5 @@
 -- `fields::be_i64`: the unsigned field in two's complement. Assumes nothing.
-use denote.Ref.{now}
+use mir.Syntax.{w64}
 use Rattle.fields.specs.Number.{big}
 use Rattle.fields.proofs.Laws.{signed-field}
 use borrow.Author.Needs.{needs}
@@ -13,10 +13,7 @@ signed8-requires : tie.Need-signed8-requires
 signed8-requires c κs = search needs
 
 returns : tie.Need-returns
-returns c =
-    let a = (c .before .before .before .args) in
-    let h = signed-field big 8 (now (a .s)) (a .at) ((c .signed8) .ensures) ((c .before .be-u64) .ensures) in
-    search needs
+returns c = signed-field big w64 _ _ (c .signed8 .ok) (c .signed8 .ensures) (c .before .be-u64 .ensures)
 
 pub be-i64-spec : {M : Type 1} → statement M
 be-i64-spec = tie.close (tie.spec be-u64-requires signed8-requires returns)

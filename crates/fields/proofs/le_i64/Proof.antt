@@ -1,5 +1,5 @@
 -- `fields::le_i64`: the unsigned field in two's complement. Assumes nothing.
-use denote.Ref.{now}
+use mir.Syntax.{w64}
 use Rattle.fields.specs.Number.{little}
 use Rattle.fields.proofs.Laws.{signed-field}
 use borrow.Author.Needs.{needs}
@@ -13,10 +13,7 @@ signed8-requires : tie.Need-signed8-requires
 signed8-requires c κs = search needs
 
 returns : tie.Need-returns
-returns c =
-    let a = (c .before .before .before .args) in
-    let h = signed-field little 8 (now (a .s)) (a .at) ((c .signed8) .ensures) ((c .before .le-u64) .ensures) in
-    search needs
+returns c = signed-field little w64 _ _ (c .signed8 .ok) (c .signed8 .ensures) (c .before .le-u64 .ensures)
 
 pub le-i64-spec : {M : Type 1} → statement M
 le-i64-spec = tie.close (tie.spec le-u64-requires signed8-requires returns)

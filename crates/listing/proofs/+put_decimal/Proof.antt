@@ -48,7 +48,9 @@ put-decimal-same-length : (t : ℕ) → put-decimal-lts.Need-same-length (claims
 put-decimal-same-length t c = search needs
 
 put-decimal-returns : (t : ℕ) → put-decimal-lts.Need-returns (claims t) (put-decimal-at t) put-decimal.Post
-put-decimal-returns t c = rw (decimal-last ((c .before .before .before .before .before .before .before .args) .n) (search needs), ← (c .before .before .before .digit) .ensures) ((c .before .before .put-byte) .ensures)
+put-decimal-returns t c = rw
+    (decimal-last ((c .before .before .before .before .before .before .before .args) .n) (search needs), ← (c .before .before .before .digit) .ensures)
+    ((c .before .before .put-byte) .ensures)
 
 put-decimal-put-decimal-requires : (t : ℕ) → put-decimal-lts.Need-put-decimal-requires (claims t) (put-decimal-at t) put-decimal.Post
 put-decimal-put-decimal-requires t c κs = let m = more ((c .before .before .before .args) .n) (search needs) (search needs) in (omega arith, omega arith)
@@ -57,7 +59,8 @@ put-decimal-digit-requires-2 : (t : ℕ) → put-decimal-lts.Need-digit-requires
 put-decimal-digit-requires-2 t c κs = search needs
 
 put-decimal-put-byte-requires-2 : (t : ℕ) → put-decimal-lts.Need-put-byte-requires-2 (claims t) (put-decimal-at t) put-decimal.Post
-put-decimal-put-byte-requires-2 t c κs = let m = more ((c .before .before .before .before .before .before .before .before .args) .n) (search needs) (search needs) in omega (arith, (c .before .before .before .before .put-decimal) .ensures .place)
+put-decimal-put-byte-requires-2 t c κs = let m = more ((c .before .before .before .before .before .before .before .before .args) .n) (search needs)
+    (search needs) in omega (arith, (c .before .before .before .before .put-decimal) .ensures .place)
 
 put-decimal-same-length-2 : (t : ℕ) → put-decimal-lts.Need-same-length-2 (claims t) (put-decimal-at t) put-decimal.Post
 put-decimal-same-length-2 t c = search needs
@@ -67,7 +70,8 @@ put-decimal-returns-2 t c =
     let a = (c .before .before .before .before .before .before .before .before .before .before .before .args) in
     let e = decimal-more (a .n) (search needs) (search needs) in
     let h : a .at + length (decimal (a .n / 10) ++ (digitOf (a .n % 10) ∷ [])) ≤ length (now (a .out)) = rw (← e) (search needs) in
-    rw e (put-then h ((c .before .before .before .before .before .before .before .put-decimal) .ensures) (rw (← (c .before .before .before .digit2) .ensures) ((c .before .before .put-byte2) .ensures)))
+    rw e (put-then h ((c .before .before .before .before .before .before .before .put-decimal) .ensures)
+    (rw (← (c .before .before .before .digit2) .ensures) ((c .before .before .put-byte2) .ensures)))
 
 pub +put-decimal-spec : {M : Type 1} → statement M
 +put-decimal-spec = close μ-put-decimal λ t. put-decimal-lts.spec (claims t)

@@ -22,7 +22,8 @@ check-volume-requires c κs = search needs
 
 returns-4 : tie.Need-returns-4
 unfolding listedAnswer
-returns-4 c = rw (le-leb _ _ ((c .before .before .before .if1) .left), le-leb _ _ ((c .before .before .if2) .left), le-leb _ _ ((c .before .if3) .left)) ((c .check-volume) .ensures)
+returns-4 c = rw (le-leb _ _ ((c .before .before .before .if1) .left), le-leb _ _ ((c .before .before .if2) .left), le-leb _ _ ((c .before .if3) .left))
+    ((c .check-volume) .ensures)
 
 pub check-listed-spec : {M : Type 1} → statement M
 check-listed-spec =

@@ -13,13 +13,25 @@ put-type-requires : tie.Need-put-type-requires
 put-type-requires c κs = omega (arith, head-size ((c .before .before .args) .v))
 
 put-number-requires : tie.Need-put-number-requires
-put-number-requires c κs = omega (arith, head-size ((c .before .before .before .before .before .before .args) .v), (c .before .before .before .put-type) .ensures .place)
+put-number-requires c κs = omega
+    (arith, head-size ((c .before .before .before .before .before .before .args) .v), (c .before .before .before .put-type) .ensures .place)
 
 put-number-requires-2 : tie.Need-put-number-requires-2
-put-number-requires-2 c κs = omega (arith, head-size ((c .before .before .before .before .before .before .before .before .before .before .args) .v), (c .before .before .before .before .before .before .before .put-type) .ensures .place, (c .before .before .before .put-number) .ensures .place)
+put-number-requires-2 c κs = omega (
+  arith,
+  head-size ((c .before .before .before .before .before .before .before .before .before .before .args) .v),
+  (c .before .before .before .before .before .before .before .put-type) .ensures .place,
+  (c .before .before .before .put-number) .ensures .place,
+)
 
 put-number-requires-3 : tie.Need-put-number-requires-3
-put-number-requires-3 c κs = omega (arith, head-size ((c .before .before .before .before .before .before .before .before .before .before .before .before .before .before .args) .v), (c .before .before .before .before .before .before .before .before .before .before .before .put-type) .ensures .place, (c .before .before .before .before .before .before .before .put-number) .ensures .place, (c .before .before .before .put-number2) .ensures .place)
+put-number-requires-3 c κs = omega (
+  arith,
+  head-size ((c .before .before .before .before .before .before .before .before .before .before .before .before .before .before .args) .v),
+  (c .before .before .before .before .before .before .before .before .before .before .before .put-type) .ensures .place,
+  (c .before .before .before .before .before .before .before .put-number) .ensures .place,
+  (c .before .before .before .put-number2) .ensures .place,
+)
 
 same-length : tie.Need-same-length
 same-length c = search needs

@@ -9,18 +9,25 @@ use Rattle.listing.proofs.put_length.Tie as tie
 
 put-number-requires : tie.Need-put-number-requires
 unfolding lengthText
-put-number-requires c κs = omega (arith, length-append (numberThen ((c .before .before .args) .number) space) (numberThen ((c .before .before .args) .len) lineFeed))
+put-number-requires c κs = omega
+    (arith, length-append (numberThen ((c .before .before .args) .number) space) (numberThen ((c .before .before .args) .len) lineFeed))
 
 put-number-requires-2 : tie.Need-put-number-requires-2
 unfolding lengthText
-put-number-requires-2 c κs = omega (arith, length-append (numberThen ((c .before .before .before .before .before .before .args) .number) space) (numberThen ((c .before .before .before .before .before .before .args) .len) lineFeed), (c .before .before .before .put-number) .ensures .place)
+put-number-requires-2 c κs = omega (
+  arith,
+  length-append (numberThen ((c .before .before .before .before .before .before .args) .number) space)
+      (numberThen ((c .before .before .before .before .before .before .args) .len) lineFeed),
+  (c .before .before .before .put-number) .ensures .place,
+)
 
 same-length : tie.Need-same-length
 same-length c = search needs
 
 returns : tie.Need-returns
 unfolding lengthText
-returns c = put-then (c .before .before .before .before .before .before .before .before .before .pre) ((c .before .before .before .before .before .before .put-number) .ensures) ((c .before .before .put-number2) .ensures)
+returns c = put-then (c .before .before .before .before .before .before .before .before .before .pre)
+    ((c .before .before .before .before .before .before .put-number) .ensures) ((c .before .before .put-number2) .ensures)
 
 pub put-length-spec : {M : Type 1} → statement M
 put-length-spec =

@@ -47,14 +47,19 @@ loop-again c =
     let l = (c .before .before .before .before .before .before .loop) in
     let f = lengthOfNumber (now (a .index)) (now (a .sequence)) in
     let g = lengths-grow f (l .i) (a .n) (c .before .before .before .before .before .loop-test .taken) in
-    let h : a .at + length (lengthsText f (l .i) ++ lengthText (l .i) (f (l .i))) ≤ length (now (a .out)) = omega arith in
-    (search needs, search needs, rw add-one (put-then h (l .inv .2) (rw (← (c .before .before .before .sequence-length) .ensures) ((c .before .before .put-length) .ensures))))
+    let h : a .at + length (lengthsText f (l .i) ++ lengthText (l .i) (f (l .i))) ≤ length (now (a .out)) = omega arith in (
+      search needs,
+      search needs,
+      rw add-one
+          (put-then h (l .inv .2) (rw (← (c .before .before .before .sequence-length) .ensures) ((c .before .before .put-length) .ensures))),
+    )
 
 same-length : tie.Need-same-length Inv-loop μ-loop
 same-length c = (c .before .loop) .inv .1
 
 returns : tie.Need-returns Inv-loop μ-loop
-returns c = let a = (c .before .before .before .before .before .args) in rw (← le-antisymm ((c .before .loop) .inv .0) (search needs)) ((c .before .loop) .inv .2)
+returns c = let a = (c .before .before .before .before .before .args) in rw (← le-antisymm ((c .before .loop) .inv .0) (search needs))
+    ((c .before .loop) .inv .2)
 
 pub put-lengths-spec : {M : Type 1} → statement M
 put-lengths-spec =

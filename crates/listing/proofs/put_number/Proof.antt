@@ -14,14 +14,20 @@ put-decimal-requires c κs = omega (arith, length-append (decimal ((c .before .b
 
 put-byte-requires : tie.Need-put-byte-requires
 unfolding numberThen
-put-byte-requires c κs = omega (arith, length-append (decimal ((c .before .before .before .before .before .before .args) .n)) ((c .before .before .before .before .before .before .args) .after ∷ []), (c .before .before .before .put-decimal) .ensures .place)
+put-byte-requires c κs = omega (
+  arith,
+  length-append (decimal ((c .before .before .before .before .before .before .args) .n))
+      ((c .before .before .before .before .before .before .args) .after ∷ []),
+  (c .before .before .before .put-decimal) .ensures .place,
+)
 
 same-length : tie.Need-same-length
 same-length c = search needs
 
 returns : tie.Need-returns
 unfolding numberThen
-returns c = put-then (c .before .before .before .before .before .before .before .before .before .pre) ((c .before .before .before .before .before .before .put-decimal) .ensures) ((c .before .before .put-byte) .ensures)
+returns c = put-then (c .before .before .before .before .before .before .before .before .before .pre)
+    ((c .before .before .before .before .before .before .put-decimal) .ensures) ((c .before .before .put-byte) .ensures)
 
 pub put-number-spec : {M : Type 1} → statement M
 put-number-spec = tie.close (tie.spec put-decimal-requires put-byte-requires same-length returns)

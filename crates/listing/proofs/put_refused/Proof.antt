@@ -16,14 +16,19 @@ put-text-requires c κs = omega (arith, length-append refusedWord (numberThen ((
 
 put-number-requires : tie.Need-put-number-requires
 unfolding refusedText
-put-number-requires c κs = omega (arith, length-append refusedWord (numberThen ((c .before .before .before .before .before .before .before .args) .number) lineFeed), (c .before .before .before .put-text) .ensures .place)
+put-number-requires c κs = omega (
+  arith,
+  length-append refusedWord (numberThen ((c .before .before .before .before .before .before .before .args) .number) lineFeed),
+  (c .before .before .before .put-text) .ensures .place,
+)
 
 same-length : tie.Need-same-length
 same-length c = search needs
 
 returns : tie.Need-returns
 unfolding refusedText
-returns c = put-first (c .before .before .before .before .before .before .before .before .before .before .pre) ((c .before .before .before .before .before .before .put-text) .ensures) ((c .before .before .put-number) .ensures)
+returns c = put-first (c .before .before .before .before .before .before .before .before .before .before .pre)
+    ((c .before .before .before .before .before .before .put-text) .ensures) ((c .before .before .put-number) .ensures)
 
 pub put-refused-spec : {M : Type 1} → statement M
 put-refused-spec =

@@ -30,7 +30,8 @@ enum-known-v c = search needs
 put-volume-requires : tie.Need-put-volume-requires
 put-volume-requires c κs =
     let a = (c .before .before .before .before .before .before .before .before .args) in
-    let f = volume-fits (now (a .index)) (now (a .sequence)) (now (a .header)) _ (sym ((c .before .before .before .before .check-listed) .ensures) ∙ (c .before .before .v) .given .1) in
+    let f = volume-fits (now (a .index)) (now (a .sequence)) (now (a .header)) _
+    (sym ((c .before .before .before .before .check-listed) .ensures) ∙ (c .before .before .v) .given .1) in
     omega arith
 
 returns : tie.Need-returns

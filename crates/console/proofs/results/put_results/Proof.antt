@@ -17,7 +17,8 @@ same-length : tie.Need-same-length
 same-length c = search needs
 
 returns-2 : tie.Need-returns-2
-returns-2 c = let a = (c .before .before .before .before .before .before .before .args) in (c .before .before .write-results) .ensures ∙ sym (put-room (now (a .values)) (now (a .results)) (omega arith))
+returns-2 c = let a = (c .before .before .before .before .before .before .before .args) in (c .before .before .write-results) .ensures ∙ sym
+    (put-room (now (a .values)) (now (a .results)) (omega arith))
 
 pub put-results-spec : {M : Type 1} → statement M
 put-results-spec = tie.close (tie.spec returns write-results-requires same-length returns-2)

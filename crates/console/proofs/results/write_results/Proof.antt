@@ -13,7 +13,8 @@ use Rattle.console.proofs.results.write_results.Statement.{statement}
 use Rattle.console.proofs.results.write_results.Tie as tie
 
 abbrev Inv-loop : tie.InvT-loop
-Inv-loop results₀ values k₀ results k = (k ≤ length values) × (length results ≡ length results₀) × (results ≡ writtenAt 0 (resultBytes (take k values)) results₀)
+Inv-loop results₀ values k₀ results k = (k ≤ length values) × (length results ≡ length results₀) ×
+    (results ≡ writtenAt 0 (resultBytes (take k values)) results₀)
 
 abbrev μ-loop : tie.MeasureT-loop
 μ-loop results₀ values k₀ results k = length values - k
@@ -45,7 +46,8 @@ loop-again c =
     let l = (c .before .before .before .before .before .before .loop) in (
       omega arith,
       ap length ((c .before .before .put-u64) .ensures) ∙ (length-put 8 _ _ _ ∙ l .inv .1),
-      (c .before .before .put-u64) .ensures ∙ results-next (now (a .values)) (now (a .results)) (l .results) (l .k) _ (omega arith) (c .before .before .before .before .before .before .before .before .before .pre) refl (l .inv .2) (l .inv .1),
+      (c .before .before .put-u64) .ensures ∙ results-next (now (a .values)) (now (a .results)) (l .results) (l .k) _ (omega arith)
+          (c .before .before .before .before .before .before .before .before .before .pre) refl (l .inv .2) (l .inv .1),
     )
 
 same-length : tie.Need-same-length Inv-loop μ-loop

@@ -39,8 +39,8 @@ signed8-requires c κs = search needs
 returns : tie.Need-returns Inv-loop μ-loop
 unfolding endsRules
 returns c =
-    let a = (c .before .before .before .before .before .args) in
     let l = (c .before .before .before .loop) in
+    let a = (c .before .before .before .before .before .args) in
     let i = now (a .index) in
     let f = rises-is i (a .table) (l .k) false (l .inv .1) ((c .before .signed8) .ok) ((c .before .signed8) .ensures) (not-true _ ((c .if1) .taken)) in
     rw (every-fails (risesAt i (a .table)) (a .n) (l .k) (omega arith) f)
@@ -65,29 +65,32 @@ loop-again c =
 after-end-requires : tie.Need-after-end-requires Inv-loop μ-loop
 after-end-requires c κs = search needs
 
+-- behind the loop: every end rises, and the place after the last one
+all-rise : (c : tie.After-loop Inv-loop μ-loop) → let a = c .before .before .before .args in every (risesAt (now (a .index)) (a .table)) (a .n) ≡ true
+all-rise c =
+    let a = c .before .before .before .args in
+    let l = c .before .loop in
+    every-done (risesAt (now (a .index)) (a .table)) (l .k) (a .n) (l .inv .0) (c .loop-test .left) (l .inv .2)
+
+last-place : (c : tie.After-after-end Inv-loop μ-loop)
+    → let a = c .before .before .before .before .args in c .after-end .result ≡ after (endBefore (now (a .index)) (a .table) (a .n))
+last-place c =
+    let a = c .before .before .before .before .args in
+    let l = c .before .before .loop in
+    last-after (now (a .index)) (a .table) (l .k) (a .n) (l .inv .0) (c .before .loop-test .left) (c .after-end .ensures) (l .inv .1)
+
 returns-2 : tie.Need-returns-2 Inv-loop μ-loop
 unfolding endsRules
 returns-2 c =
-    let a = (c .before .before .before .before .before .args) in
-    let l = (c .before .before .before .loop) in
-    let i = now (a .index) in
-    let f = every-done (risesAt i (a .table)) (l .k) (a .n) (l .inv .0) ((c .before .before .loop-test) .left) (l .inv .2) in
-    let g = last-after i (a .table) (l .k) (a .n) (l .inv .0) ((c .before .before .loop-test) .left) ((c .before .after-end) .ensures) (l .inv .1) in
-    rw (f, ne-eqb (after (endBefore i (a .table) (a .n))) (a .size) (λ x. omega (arith, g, x)))
+    let a = c .before .before .before .before .before .args in
+    let n = ne-eqb (after (endBefore (now (a .index)) (a .table) (a .n))) (a .size) (λ x. omega (arith, last-place (c .before), x)) in
+    rw (all-rise (c .before .before), n)
 
 returns-3 : tie.Need-returns-3 Inv-loop μ-loop
 unfolding endsRules
 returns-3 c =
     let a = (c .before .before .before .before .before .args) in
-    let l = (c .before .before .before .loop) in
-    let i = now (a .index) in
-    let f = every-done (risesAt i (a .table)) (l .k) (a .n) (l .inv .0) ((c .before .before .loop-test) .left) (l .inv .2) in
-    rw (
-      f,
-      eq-eqb (after (endBefore i (a .table) (a .n))) (a .size) (sym (
-          last-after i (a .table) (l .k) (a .n) (l .inv .0) ((c .before .before .loop-test) .left) ((c .before .after-end) .ensures) (l .inv .1)) ∙
-          (c .if2) .left),
-    )
+    rw (all-rise (c .before .before), eq-eqb (after (endBefore (now (a .index)) (a .table) (a .n))) (a .size) (sym (last-place (c .before)) ∙ c .if2 .left))
 
 pub check-ends-spec : {M : Type 1} → statement M
 check-ends-spec =

@@ -1,6 +1,6 @@
 -- `dsqdata::records::check_records`: the records passed keep their rules, and the lengths of their texts are compared. Assumes nothing.
 use mathlib.Core.Path.{_≡_, refl, sym, ap, _∙_}
-use Prim.Native.Nat.{ℕ, _+_, _-_, _≤_}
+use Prim.Native.Nat.{_+_, _-_, _≤_}
 use native.Mathlib.Omega.{arith}
 use denote.Ref.{now}
 use lib.IntN.{ℤ}
@@ -14,7 +14,7 @@ use Rattle.dsqdata.specs.Records.{textsAt, nameAt, accessionAt, descript
 use Rattle.dsqdata.specs.Check.{rulesTo, rulesOfRecord}
 use Rattle.dsqdata.proofs.EachRule.{rules-more}
 use Rattle.dsqdata.proofs.Rising.{end-zero}
-use Rattle.dsqdata.proofs.Texts.{record-next, record-within, record-read, texts-name, texts-accession, texts-description, record-holds}
+use Rattle.dsqdata.proofs.Texts.{record-next, record-read, texts-name, texts-accession, texts-description, record-holds}
 use Rattle.dsqdata.proofs.Longest.{records-bad, records-done}
 use borrow.Author.Needs.{needs}
 use Rattle.dsqdata.proofs.records.check_records.Statement.{statement}
@@ -36,26 +36,8 @@ loop-holds c =
     let e = ap (λ (z : ℤ). 8 + after z) (end-zero (now ((c .before .before .args) .index)) metadataTable 0 refl) in
     (omega arith, sym e, refl, refl, refl, tt)
 
-mul-signed8 : tie.Need-mul-signed8 Inv-loop μ-loop
-mul-signed8 c = search needs
-
-add-signed8 : tie.Need-add-signed8 Inv-loop μ-loop
-add-signed8 c = search needs
-
-signed8-requires : tie.Need-signed8-requires Inv-loop μ-loop
-signed8-requires c κs = search needs
-
-after-end-requires : tie.Need-after-end-requires Inv-loop μ-loop
-after-end-requires c κs = search needs
-
-add-t18 : tie.Need-add-t18 Inv-loop μ-loop
-add-t18 c =
-    let a = (c .before .before .before .before .before .before .args) in
-    let l = (c .before .before .before .loop) in
-    let w = record-within (now (a .index)) (now (a .metadata)) (l .k) (l .inv .1) ((c .after-end) .ensures)
-    ((c .before .signed8) .ok) ((c .before .signed8) .ensures)
-    (a .n) (omega arith) ((c .before .before .before .before .before .before .pre) .1) in
-    omega (arith, w)
+record-end-requires : tie.Need-record-end-requires Inv-loop μ-loop
+record-end-requires c κs = omega (arith, (c .before .before .before .before .pre))
 
 read-record-requires : tie.Need-read-record-requires Inv-loop μ-loop
 read-record-requires c κs = search needs
@@ -68,13 +50,11 @@ enum-told c = search needs
 
 returns : tie.Need-returns Inv-loop μ-loop
 returns c =
-    let a = (c .before .before .before .before .before .before .before .before .before .args) in
-    let l = (c .before .before .before .before .before .before .loop) in
-    let g : textsAt (now (a .index)) (now (a .metadata)) (l .k) ≡ Bad = record-read (now (a .index)) (now (a .metadata)) (l .k) (l .inv .1)
-    ((c .before .before .before .after-end) .ensures)
-    ((c .before .before .before .before .signed8) .ok) ((c .before .before .before .before .signed8) .ensures)
-    ((c .before .before .read-record) .ensures) ((c .enum-told) .given .1) in
-    records-bad (now (a .index)) (now (a .metadata)) (a .n) (l .k) (omega arith) (l .inv .5) g
+    let a = (c .before .before .before .before .before .before .before .before .args) in
+    let l = (c .before .before .before .before .before .loop) in
+    let to = (c .before .before .before .record-end) .ensures in
+    records-bad (now (a .index)) (now (a .metadata)) (a .n) (l .k) (omega arith) (l .inv .5)
+    (record-read (now (a .index)) (now (a .metadata)) (l .k) (l .inv .1) to ((c .before .before .read-record) .ensures) ((c .enum-told) .given .1))
 
 larger-requires : tie.Need-larger-requires Inv-loop μ-loop
 larger-requires c κs = search needs
@@ -93,21 +73,15 @@ loop-less c = search needs
 
 loop-again : tie.Need-loop-again Inv-loop μ-loop
 loop-again c =
-    let a = (c .before .before .before .before .before .before .before .before .before .before .before .before .before .args) in
-    let l = (c .before .before .before .before .before .before .before .before .before .before .loop) in
+    let a = (c .before .before .before .before .before .before .before .before .before .before .before .before .args) in
+    let l = (c .before .before .before .before .before .before .before .before .before .loop) in
+    let to = (c .before .before .before .before .before .before .before .record-end) .ensures in
     let i = now (a .index) in
     let m = now (a .metadata) in
-    let next = record-next (now (a .index)) (now (a .metadata)) (l .k) (l .inv .1)
-    ((c .before .before .before .before .before .before .before .after-end) .ensures)
-    ((c .before .before .before .before .before .before .before .before .signed8) .ok)
-    ((c .before .before .before .before .before .before .before .before .signed8) .ensures) in
-    let g : textsAt i m (l .k) ≡ Lengths _ _ _ = record-read (now (a .index)) (now (a .metadata)) (l .k) (l .inv .1)
-    ((c .before .before .before .before .before .before .before .after-end) .ensures)
-    ((c .before .before .before .before .before .before .before .before .signed8) .ok)
-    ((c .before .before .before .before .before .before .before .before .signed8) .ensures)
-    ((c .before .before .before .before .before .before .read-record) .ensures) ((c .before .before .before .before .a) .given .1) in (
+    let e = c .before .before .before .before in
+    let g : textsAt i m (l .k) ≡ Lengths _ _ _ = record-read i m (l .k) (l .inv .1) to (e .before .before .read-record .ensures) (e .a .given .1) in (
       omega arith,
-      next,
+      record-next i m (l .k) (l .inv .1) to,
       (c .before .before .larger) .ensures ∙ largest-more (nameAt i m) (l .k) _ _ (l .inv .2) (texts-name g),
       (c .before .larger2) .ensures ∙ largest-more (accessionAt i m) (l .k) _ _ (l .inv .3) (texts-accession g),
       (c .larger3) .ensures ∙ largest-more (descriptionAt i m) (l .k) _ _ (l .inv .4) (texts-description g),
@@ -128,11 +102,7 @@ check-records-spec =
     Inv-loop
     μ-loop
     loop-holds
-    mul-signed8
-    add-signed8
-    signed8-requires
-    after-end-requires
-    add-t18
+    record-end-requires
     read-record-requires
     enum-known-a
     enum-told

@@ -1,26 +1,25 @@
 // The runs of a set, read one after another: whether each is well formed, and how many residues it has.
-use crate::ends::after_end;
-use crate::header::signed8;
+use crate::ends::PACKET_TABLE;
+use crate::ends::place_after;
+use crate::header::FILE_HEADER;
 use answers::Refusal;
 use packets::PacketPos;
 use packets::RunLength;
 ghost use mathlib.Core.Path.{_≡_};
-ghost use Prim.Native.Nat.{max, _≤_, _<_};
+ghost use Prim.Native.Nat.{suc, max, _≤_, _<_};
 ghost use lib.ListN.{length};
 ghost use lib.Seq.{slice};
 ghost use Rattle.laws.specs.Rules.{AllHold};
+ghost use Rattle.packets.specs.Ends.{after};
 ghost use Rattle.packets.specs.Reading.{runLength};
 ghost use Rattle.dsqdata.specs.Header.{packetsIn, bodyOf};
-ghost use Rattle.dsqdata.specs.Ends.{packetTable};
+ghost use Rattle.dsqdata.specs.Ends.{packetTable, endBefore};
 ghost use Rattle.dsqdata.specs.Check.{endsRules};
 ghost use Rattle.dsqdata.specs.Scans.{runsTo};
 
-// The bytes of a sequence file before its packets: magic and tag.
-const HEADER: u64 = 8;
-
 // All runs: the total of residues and the longest.
 pub(crate) enum Runs {
-    Totals(usize, usize),
+    Totals { residues: usize, longest: usize },
     Refused(Refusal),
 }
 
@@ -39,9 +38,17 @@ fn read_run(sequence: &[u8], alphabet: u32, from: PacketPos, to: PacketPos) -> R
     requires { ⌜ (from .0 < to .0) × (to .0 ≤ packetsIn (now sequence)) × (length (now sequence) ≤ 2147483647) ⌝ }
     ensures { λ r. ⌜ r ≡ runLength alphabet (slice (from .0) (to .0) (bodyOf (now (sequence .entry)))) ⌝ }
 {
-    let start = packets::byte_of(from, HEADER);
-    let end = packets::byte_of(to, HEADER);
+    let start = packets::byte_of(from, FILE_HEADER as u64);
+    let end = packets::byte_of(to, FILE_HEADER as u64);
     byte_runs::read_run(alphabet, &sequence[start.0 as usize..end.0 as usize])
+}
+
+// The packet behind the run of number k.
+fn run_end(index: &[u8], k: usize) -> PacketPos
+    requires { ⌜ k < 134217728 ⌝ }
+    ensures { λ r. ⌜ r .0 ≡ after (endBefore (now (index .entry)) packetTable (suc k)) ⌝ }
+{
+    PacketPos(place_after(index, PACKET_TABLE, k))
 }
 
 // Reads all runs between the packet ends.
@@ -55,7 +62,7 @@ pub(crate) fn check_runs(index: &[u8], sequence: &[u8], alphabet: u32, n: usize)
     let mut from = PacketPos(0);
     let mut k: usize = 0;
     while k < n {
-        let to = PacketPos(after_end(signed8(index, 60 + 16 * k)));
+        let to = run_end(index, k);
         let RunLength::Residues(count) = read_run(sequence, alphabet, from, to) else {
             return Runs::Refused(Refusal::BadRun);
         };
@@ -64,5 +71,5 @@ pub(crate) fn check_runs(index: &[u8], sequence: &[u8], alphabet: u32, n: usize)
         from = to;
         k += 1;
     }
-    Runs::Totals(residues, longest)
+    Runs::Totals { residues, longest }
 }

@@ -1,4 +1,4 @@
--- `dsqdata::runs::check_runs`: the runs passed keep their rules, and their residues are added up and compared. Assumes nothing.
+-- `dsqdata::set_runs::check_runs`: the runs passed keep their rules, and their residues are added up and compared. Assumes nothing.
 use mathlib.Core.Path.{_≡_, refl, sym, ap, _∙_}
 use Prim.Native.Nat.{ℕ, suc, _+_, _*_, _-_, _≤_}
 use native.Mathlib.Omega.{arith}
@@ -9,17 +9,17 @@ use Rattle.laws.specs.Rules.{AllHold}
 use Rattle.laws.proofs.Places.{sum-more, largest-more}
 use Rattle.laws.proofs.Rules.{verdict-passes}
 use Rattle.packets.specs.Ends.{after}
-use Rattle.dsqdata.specs.declared.runs.Runs.the-variants.{Totals, Refused}
+use Rattle.dsqdata.specs.declared.set_runs.Runs.the-variants.{Totals, Refused}
 use Rattle.dsqdata.specs.Header.{packetsIn}
 use Rattle.dsqdata.specs.Ends.{packetTable, endBefore, runAt, residuesAt}
 use Rattle.dsqdata.specs.Check.{rulesOfRun, runRulesTo}
 use Rattle.dsqdata.specs.Scans.{runsTo}
 use Rattle.dsqdata.proofs.EachRule.{rules-more, rules-done, rules-refused}
-use Rattle.dsqdata.proofs.Rising.{end-zero, end-after, after-rises, ends-rule, ends-within, run-read, residues-most}
-use Rattle.dsqdata.proofs.Wholes.{run-refused, run-passed}
+use Rattle.dsqdata.proofs.Rising.{end-zero, after-rises, ends-rule, ends-within, residues-most}
+use Rattle.dsqdata.proofs.Wholes.{RunPassed, run-bad, run-good}
 use borrow.Author.Needs.{needs}
-use Rattle.dsqdata.proofs.runs.check_runs.Statement.{statement}
-use Rattle.dsqdata.proofs.runs.check_runs.Tie as tie
+use Rattle.dsqdata.proofs.set_runs.check_runs.Statement.{statement}
+use Rattle.dsqdata.proofs.set_runs.check_runs.Tie as tie
 
 abbrev Inv-loop : tie.InvT-loop
 Inv-loop index sequence alphabet n residues₀ longest₀ from₀ k₀ residues longest from k = (k ≤ n)
@@ -32,32 +32,31 @@ Inv-loop index sequence alphabet n residues₀ longest₀ from₀ k₀ residues 
 abbrev μ-loop : tie.MeasureT-loop
 μ-loop index sequence alphabet n residues₀ longest₀ from₀ k₀ residues longest from k = n - k
 
+-- the run of this turn passed
+run-here : (c : tie.After-known-told Inv-loop μ-loop)
+    → let a = (c .before .before .before .before .before .before .before .before .before .args) in
+    RunPassed (now (a .index)) (now (a .sequence)) (a .alphabet) (c .before .before .before .before .before .before .loop .k) ((c .before .count) .given .0 .0)
+run-here c =
+    let a = (c .before .before .before .before .before .before .before .before .before .args) in
+    let l = (c .before .before .before .before .before .before .loop) in
+    run-good (now (a .index)) (now (a .sequence)) (a .alphabet) (l .k) (l .inv .1) ((c .before .before .before .before .run-end) .ensures)
+    ((c .before .before .before .read-run) .ensures) ((c .before .count) .given .1)
+
 loop-holds : tie.Need-loop-holds Inv-loop μ-loop
 loop-holds c = let i = now ((c .before .before .args) .index) in (omega arith, sym (ap after (end-zero i packetTable 0 refl)), refl, refl, omega arith, tt)
 
-mul-signed8 : tie.Need-mul-signed8 Inv-loop μ-loop
-mul-signed8 c = search needs
-
-add-signed8 : tie.Need-add-signed8 Inv-loop μ-loop
-add-signed8 c = search needs
-
-signed8-requires : tie.Need-signed8-requires Inv-loop μ-loop
-signed8-requires c κs = search needs
-
-after-end-requires : tie.Need-after-end-requires Inv-loop μ-loop
-after-end-requires c κs = search needs
+run-end-requires : tie.Need-run-end-requires Inv-loop μ-loop
+run-end-requires c κs = omega (arith, (c .before .before .before .before .pre) .0 .0)
 
 read-run-requires : tie.Need-read-run-requires Inv-loop μ-loop
 read-run-requires c κs =
-    let a = (c .before .before .before .before .before .before .args) in
-    let l = (c .before .before .before .loop) in
-    let i = now (a .index) in
-    let s = now (a .sequence) in
-    let to = end-after i packetTable (l .k) _ _ ((c .after-end) .ensures) ((c .before .signed8) .ok) ((c .before .signed8) .ensures) in
-    let r = ends-rule i packetTable (a .n) (packetsIn s) ((c .before .before .before .before .before .before .pre) .1) in
-    let w = ends-within i packetTable (a .n) (packetsIn s) r (suc (l .k)) (omega arith) in
-    let m = after-rises i packetTable (a .n) (r .rises) (l .k) (omega arith) in
-    (omega (arith, to, l .inv .1), omega (arith, to), (c .before .before .before .before .before .before .pre) .0 .1)
+    let a = (c .before .before .before .before .before .args) in
+    let l = (c .before .before .loop) in
+    let to = (c .run-end) .ensures in
+    let r = ends-rule (now (a .index)) packetTable (a .n) (packetsIn (now (a .sequence))) ((c .before .before .before .before .before .pre) .1) in
+    let w = ends-within (now (a .index)) packetTable (a .n) (packetsIn (now (a .sequence))) r (suc (l .k)) (omega arith) in
+    let m = after-rises (now (a .index)) packetTable (a .n) (r .rises) (l .k) (omega arith) in
+    (omega (arith, to, l .inv .1), omega (arith, to), (c .before .before .before .before .before .pre) .0 .1)
 
 enum-known-count : tie.Need-enum-known-count Inv-loop μ-loop
 enum-known-count c = search needs
@@ -68,29 +67,20 @@ enum-told c = search needs
 returns : tie.Need-returns Inv-loop μ-loop
 unfolding runsTo
 returns c =
-    let a = (c .before .before .before .before .before .before .before .before .before .args) in
-    let l = (c .before .before .before .before .before .before .loop) in
+    let l = (c .before .before .before .before .before .loop) in
+    let a = (c .before .before .before .before .before .before .before .before .args) in
     let i = now (a .index) in
     let s = now (a .sequence) in
-    let to = end-after i packetTable (l .k) _ _ ((c .before .before .before .after-end) .ensures) ((c .before .before .before .before .signed8) .ok)
-    ((c .before .before .before .before .signed8) .ensures) in
-    let run = run-read i s (l .k) (a .alphabet) (l .from .0) _ _ (l .inv .1) to ((c .before .before .read-run) .ensures) in
-    let e = run-refused (a .alphabet) (runAt i s (l .k)) _ run ((c .enum-told) .given .1) in
+    let to = (c .before .before .before .run-end) .ensures in
+    let e = run-bad i s (a .alphabet) (l .k) (l .inv .1) to ((c .before .before .read-run) .ensures) ((c .enum-told) .given .1) in
     let fine = Totals (sumTo (residuesAt i s) (a .n)) (largestTo (residuesAt i s) (a .n)) in
     sym (rules-refused (λ k. rulesOfRun (a .alphabet) (runAt i s k)) (a .n) (l .k) _ _ (omega arith) (l .inv .5) e refl Refused fine)
 
 add-residues : tie.Need-add-residues Inv-loop μ-loop
 add-residues c =
-    let a = (c .before .before .before .before .before .before .before .before .before .before .args) in
-    let l = (c .before .before .before .before .before .before .before .loop) in
-    let i = now (a .index) in
-    let s = now (a .sequence) in
-    let to = end-after i packetTable (l .k) _ _ ((c .before .before .before .before .after-end) .ensures)
-    ((c .before .before .before .before .before .signed8) .ok) ((c .before .before .before .before .before .signed8) .ensures) in
-    let run = run-read i s (l .k) (a .alphabet) (l .from .0) _ _ (l .inv .1) to ((c .before .before .before .read-run) .ensures) in
-    let g = run-passed (a .alphabet) (runAt i s (l .k)) _ run ((c .before .count) .given .0 .0) ((c .before .count) .given .1) in
-    let n = g .1 in
-    omega (arith, n, residues-most i s (l .k))
+    let l = c .before .before .before .before .before .before in
+    let e = l .before .before .before in
+    omega (arith, run-here c .1, e .pre .0, residues-most (now (e .args .index)) (now (e .args .sequence)) (l .loop .k))
 
 larger-requires : tie.Need-larger-requires Inv-loop μ-loop
 larger-requires c κs = search needs
@@ -103,17 +93,14 @@ loop-less c = search needs
 
 loop-again : tie.Need-loop-again Inv-loop μ-loop
 loop-again c =
-    let a = (c .before .before .before .before .before .before .before .before .before .before .before .args) in
-    let l = (c .before .before .before .before .before .before .before .before .loop) in
+    let a = (c .before .before .before .before .before .before .before .before .before .before .args) in
+    let l = (c .before .before .before .before .before .before .before .loop) in
     let i = now (a .index) in
     let s = now (a .sequence) in
-    let to = end-after i packetTable (l .k) _ _ ((c .before .before .before .before .before .after-end) .ensures)
-    ((c .before .before .before .before .before .before .signed8) .ok) ((c .before .before .before .before .before .before .signed8) .ensures) in
-    let run = run-read i s (l .k) (a .alphabet) (l .from .0) _ _ (l .inv .1) to ((c .before .before .before .before .read-run) .ensures) in
-    let g = run-passed (a .alphabet) (runAt i s (l .k)) _ run ((c .before .before .count) .given .0 .0) ((c .before .before .count) .given .1) in
+    let g = run-here (c .before) in
     let n = g .1 in (
       omega arith,
-      to ∙ ap (λ (m : ℕ). after (endBefore i packetTable m)) (sym (add-one (l .k))),
+      (c .before .before .before .before .before .run-end) .ensures ∙ ap (λ (m : ℕ). after (endBefore i packetTable m)) (sym (add-one (l .k))),
       ap (λ (x : ℕ). x + (c .before .before .count) .given .0 .0) (l .inv .2) ∙ sum-more (residuesAt i s) (l .k) _ n,
       (c .larger) .ensures ∙ largest-more (residuesAt i s) (l .k) _ _ (l .inv .3) n,
       omega (arith, n, residues-most i s (l .k)),
@@ -139,10 +126,7 @@ check-runs-spec =
     Inv-loop
     μ-loop
     loop-holds
-    mul-signed8
-    add-signed8
-    signed8-requires
-    after-end-requires
+    run-end-requires
     read-run-requires
     enum-known-count
     enum-told

@@ -1,10 +1,10 @@
--- `dsqdata::runs::read_run`: the bytes of the run's packets, read. Assumes nothing.
+-- `dsqdata::set_runs::read_run`: the bytes of the run's packets, read. Assumes nothing.
 use native.Mathlib.Omega.{arith}
 use denote.Ref.{now}
 use Rattle.dsqdata.proofs.FileBodies.{run-within, run-found}
 use borrow.Author.Needs.{needs}
-use Rattle.dsqdata.proofs.runs.read_run.Statement.{statement}
-use Rattle.dsqdata.proofs.runs.read_run.Tie as tie
+use Rattle.dsqdata.proofs.set_runs.read_run.Statement.{statement}
+use Rattle.dsqdata.proofs.set_runs.read_run.Tie as tie
 
 byte-of-requires : tie.Need-byte-of-requires
 byte-of-requires c κs = search needs
