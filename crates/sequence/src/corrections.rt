@@ -126,8 +126,8 @@ pub(crate) fn check_table(sequence: &[u8], place: usize, end: usize, l: usize) -
     Checked::Passed
 }
 
-// Writes one code at n places from a start on.
-fn paint(out: &mut [u8], start: usize, n: usize, code: u8)
+// Writes one code at n places from a start on, one by one.
+fn fill(out: &mut [u8], start: usize, n: usize, code: u8)
     requires { ⌜ start + n ≤ length (now out) ⌝ }
     ensures { λ _. ⌜ now (out .exit) ≡ writtenAt start (listTo (λ _. code) n) (now (out .entry)) ⌝ }
 {
@@ -136,6 +136,23 @@ fn paint(out: &mut [u8], start: usize, n: usize, code: u8)
         out[start + i] = code;
         i += 1;
     }
+}
+
+// Writes one code at n places from a start on. Eight to sixteen are two stores of eight, which may meet: most corrections are short.
+fn paint(out: &mut [u8], start: usize, n: usize, code: u8)
+    requires { ⌜ start + n ≤ length (now out) ⌝ }
+    ensures { λ _. ⌜ now (out .exit) ≡ writtenAt start (listTo (λ _. code) n) (now (out .entry)) ⌝ }
+{
+    if n < 8 {
+        fill(out, start, n, code);
+        return;
+    }
+    if n > 16 {
+        fill(out, start, n, code);
+        return;
+    }
+    fill(out, start, 8, code);
+    fill(out, start + (n - 8), 8, code);
 }
 
 // Writes the first n corrections over an output.
