@@ -1,41 +1,10 @@
-// Easel's alphabets and residue codes, and the codes of a volume's ambiguity and protein values.
+// Easel's alphabets and residue codes, and the codes of a volume's ambiguity values.
 ghost use mathlib.Core.Path.{_≡_};
 ghost use Prim.Native.Nat.{_<_};
 ghost use Rattle.residues.specs.Alphabets.{isAlphabet, isAmino, codeLimit};
-ghost use Rattle.residues.specs.Tables.{ambiguityCode, proteinCodes};
+ghost use Rattle.residues.specs.Tables.{ambiguityCode};
 
 const AMBIGUITY_CODES: [u8; 16] = [4, 0, 1, 7, 2, 5, 9, 13, 3, 10, 6, 11, 8, 14, 12, 15];
-
-const PROTEIN_CODES: [u8; 28] = [
-    20,
-    0,
-    21,
-    1,
-    2,
-    3,
-    4,
-    5,
-    6,
-    7,
-    8,
-    9,
-    10,
-    11,
-    12,
-    13,
-    14,
-    15,
-    16,
-    17,
-    18,
-    26,
-    19,
-    23,
-    25,
-    27,
-    24,
-    22,
-];
 
 // Whether a number is an alphabet: 1 or 2, nucleic, or 3, amino.
 pub fn is_alphabet(alphabet: u32) -> bool
@@ -72,11 +41,4 @@ pub fn ambiguity_code(v: u8) -> u8
         return 0;
     }
     AMBIGUITY_CODES[v as usize]
-}
-
-// The codes of the protein values 0 to 27, by the value.
-pub fn protein_codes() -> [u8; 28]
-    ensures { λ r. ⌜ r ≡ proteinCodes ⌝ }
-{
-    PROTEIN_CODES
 }

@@ -105,17 +105,17 @@ module _ (sequence : List ℕ) (place end : ℕ) where
     width-of (narrow h e f g) l = rw (lt-leb 2147483648 _ h) (sym f)
     width-of (wide h e f g) l = rw (le-leb 2147483648 _ h) (sym f)
 
-    -- each entry starts within the range
-    entry-inside : HasEntries sequence place end w n → (j : ℕ) → j < n → place + 4 + w * j ≤ end
+    -- each entry lies within the range
+    entry-inside : HasEntries sequence place end w n → (j : ℕ) → j < n → place + 4 + w * j + w ≤ end
     entry-inside (empty e z) j l = absurd (omega arith)
     entry-inside (narrow h e f g) j l = rw f (omega arith)
     entry-inside (wide h e f g) j l = rw f (omega arith)
 
--- each entry starts within the file, by the width and the count that were told
+-- each entry lies within the file, by the width and the count that were told
 pub entry-in-file : (sequence : List ℕ) (place end w n : ℕ) → isTable sequence place end ≡ true → end ≤ length sequence
-    → w ≡ entryWidth sequence place → n ≡ entryCount sequence place end → (j : ℕ) → j < n → place + 4 + w * j ≤ length sequence
+    → w ≡ entryWidth sequence place → n ≡ entryCount sequence place end → (j : ℕ) → j < n → place + 4 + w * j + w ≤ length sequence
 entry-in-file sequence place end w n t h e f j l =
-    let i : place + 4 + w * j ≤ end = rw e
+    let i : place + 4 + w * j + w ≤ end = rw e
     (entry-inside sequence place end (entryWidth sequence place) (entryCount sequence place end) (table-of sequence place end t) j (rw (← f) l)) in
     omega arith
 
@@ -158,7 +158,7 @@ module _ (sequence : List ℕ) (entries w l n : ℕ) (e : every (entryFits seque
 
 module _ (sequence : List ℕ) (place end l w n : ℕ) (h : AllHold (rangeRules sequence place end l)) (e : w ≡ entryWidth sequence place)
     (f : n ≡ entryCount sequence place end) where
-  pub table-entries : end ≤ length sequence → (j : ℕ) → j < n → place + 4 + w * j ≤ length sequence
+  pub table-entries : end ≤ length sequence → (j : ℕ) → j < n → place + 4 + w * j + w ≤ length sequence
   table-entries = λ k. entry-in-file sequence place end w n (h .0) k e f
 
   pub table-ends : (j : ℕ) → j < n → correctionEnd (correctionAt sequence (place + 4) w j) ≤ l

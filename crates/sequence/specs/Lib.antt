@@ -1,6 +1,7 @@
 pub mod Bases
 pub mod Corrections
 pub mod Sequence
+pub mod Mended
 pub mod Placed
 pub mod Checked
 pub mod Holds

@@ -1,11 +1,13 @@
 // Residues out of bytes: two-bit residues, four to a byte, and protein residues, one to a byte.
 ghost use mathlib.Core.Path.{_≡_};
-ghost use Prim.Native.Nat.{_+_, _*_, _/_, _≤_, _<_};
-ghost use lib.ListN.{length, getD};
+ghost use Prim.Native.Nat.{ℕ, _+_, _*_, _-_, _/_, _≤_, _<_};
+ghost use lib.ListN.{length};
 ghost use Rattle.laws.specs.Places.{every, largestTo};
 ghost use Rattle.laws.specs.Writing.{writtenAt};
 ghost use Rattle.sequence.specs.Bases.{basesOf, twoBitResidues};
-ghost use Rattle.sequence.specs.Sequence.{byteFrom, isProteinByte, proteinResidues};
+ghost use Rattle.residues.specs.Tables.{proteinCode};
+ghost use Rattle.sequence.specs.Mended.{whereIs, residuesFrom};
+ghost use Rattle.sequence.specs.Sequence.{byteFrom, mostProteinByte, isProteinByte, proteinResidues};
 
 // The four bases of a byte, two of each half. The product holds the half byte twice, from bit 0 and from bit 10 on: written so, the
 // loop over many bytes is compiled to vector code, three times as fast as one that shifts each base out of the byte.
@@ -78,22 +80,95 @@ pub(crate) fn are_proteins(sequence: &[u8], start: usize, l: usize) -> bool
     largest_byte(sequence, start, l) <= 27
 }
 
-// The code of a value in a table of codes; 0 for a value past its end.
-fn code_of(codes: &[u8], value: u8) -> u8
-    ensures { λ r. ⌜ r ≡ getD (now (codes .entry)) value 0 ⌝ }
+// The difference of two bytes; 0 where it would be negative.
+fn minus(a: u8, b: u8) -> u8
+    ensures value { λ r. ⌜ r ≡ a - b ⌝ }
+    ensures small { λ r. ⌜ r ≤ a ⌝ }
 {
-    fields::byte(codes, value as usize)
+    if a < b {
+        return 0;
+    }
+    a - b
 }
 
-// Writes the residues of l protein bytes from a start on.
-pub(crate) fn write_proteins(sequence: &[u8], start: usize, l: usize, out: &mut [u8])
-    requires { ⌜ (start + l ≤ length (now sequence)) × (l ≤ length (now out)) ⌝ }
+// A number where a byte is a given one, else 0.
+fn where_is(byte: u8, given: u8, number: u8) -> u8
+    ensures value { λ r. ⌜ r ≡ whereIs byte given number ⌝ }
+    ensures small { λ r. ⌜ r ≤ number ⌝ }
+{
+    if byte == given {
+        return number;
+    }
+    0
+}
+
+// The code of a protein byte. Most codes are the byte less 2, and the others are mended one by one: without a table and without a branch,
+// sixteen bytes are translated at once.
+fn protein_code(byte: u8) -> u8
+    requires { ⌜ byte ≤ mostProteinByte ⌝ }
+    ensures { λ r. ⌜ r ≡ proteinCode byte ⌝ }
+{
+    let raised = minus(byte, 2)
+        + minus(byte, 21)
+        + where_is(byte, 0, 20)
+        + where_is(byte, 2, 21)
+        + where_is(byte, 21, 7);
+    let lowered = where_is(byte, 22, 2) + where_is(byte, 26, 5) + where_is(byte, 27, 9);
+    minus(raised, lowered)
+}
+
+// The codes of sixteen of the protein bytes from a start on, from the k-th on.
+fn sixteen_codes(sequence: &[u8], start: usize, k: usize) -> [u8; 16]
+    requires { ⌜ (start + (k + 16) ≤ length (now sequence)) × ((i : ℕ) → i < 16 → byteFrom (now sequence) start (k + i) ≤ mostProteinByte) ⌝ }
+    ensures { λ r. ⌜ r ≡ residuesFrom (now (sequence .entry)) start k 16 ⌝ }
+{
+    let mut codes = [0u8; 16];
+    let mut i: usize = 0;
+    while i < 16 {
+        codes[i] = protein_code(sequence[start + (k + i)]);
+        i += 1;
+    }
+    codes
+}
+
+// Writes these codes at their place of the output. All are made before the first is stored, so that the compiler makes them together.
+fn put_sixteen(sequence: &[u8], start: usize, k: usize, out: &mut [u8])
+    requires { ⌜ (start + (k + 16) ≤ length (now sequence)) × ((i : ℕ) → i < 16 → byteFrom (now sequence) start (k + i) ≤ mostProteinByte) × (k + 16 ≤ length (now out)) ⌝ }
+    ensures { λ _. ⌜ now (out .exit) ≡ writtenAt k (residuesFrom (now (sequence .entry)) start k 16) (now (out .entry)) ⌝ }
+{
+    let codes = sixteen_codes(sequence, start, k);
+    let mut j: usize = 0;
+    while j < 16 {
+        out[k + j] = codes[j];
+        j += 1;
+    }
+}
+
+// Writes the residues of l protein bytes from a start on, one by one.
+fn write_few(sequence: &[u8], start: usize, l: usize, out: &mut [u8])
+    requires { ⌜ (start + l ≤ length (now sequence)) × ((i : ℕ) → i < l → byteFrom (now sequence) start i ≤ mostProteinByte) × (l ≤ length (now out)) ⌝ }
     ensures { λ _. ⌜ now (out .exit) ≡ writtenAt 0 (proteinResidues (now (sequence .entry)) start l) (now (out .entry)) ⌝ }
 {
-    let codes = residues::protein_codes();
     let mut k = 0;
     while k < l {
-        out[k] = code_of(&codes, sequence[start + k]);
+        out[k] = protein_code(sequence[start + k]);
         k += 1;
     }
+}
+
+// Writes the residues of l protein bytes from a start on, sixteen at once; the last sixteen are whole too, and write some once more.
+pub(crate) fn write_proteins(sequence: &[u8], start: usize, l: usize, out: &mut [u8])
+    requires { ⌜ (start + l ≤ length (now sequence)) × ((i : ℕ) → i < l → byteFrom (now sequence) start i ≤ mostProteinByte) × (l ≤ length (now out)) ⌝ }
+    ensures { λ _. ⌜ now (out .exit) ≡ writtenAt 0 (proteinResidues (now (sequence .entry)) start l) (now (out .entry)) ⌝ }
+{
+    if l < 16 {
+        write_few(sequence, start, l, out);
+        return;
+    }
+    let mut k = 0;
+    while l - k >= 16 {
+        put_sixteen(sequence, start, k, out);
+        k += 16;
+    }
+    put_sixteen(sequence, start, l - 16, out);
 }

@@ -60,21 +60,23 @@ pub(crate) fn entry_count(sequence: &[u8], place: usize, end: usize) -> usize
     words / 2
 }
 
-// The entry of w bytes at a place.
+// The entry of w bytes at a place, where it lies inside the file: read from its own bytes, it is one load.
 fn entry_at(sequence: &[u8], at: usize, w: usize) -> u64
-    requires { ⌜ (w ≡ 4) ⊎ (w ≡ 8) ⌝ }
+    requires { ⌜ ((w ≡ 4) ⊎ (w ≡ 8)) × (at + w ≤ length (now sequence)) ⌝ }
     ensures value { λ r. ⌜ r ≡ unsignedAt big w (now (sequence .entry)) at ⌝ }
     ensures small { λ r. ⌜ r < 2 ^ (8 * w) ⌝ }
 {
     if w == 4 {
-        return fields::be_u32(sequence, at) as u64;
+        let end = at + 4;
+        return fields::be_u32(&sequence[at..end], 0) as u64;
     }
-    fields::be_u64(sequence, at)
+    let end = at + 8;
+    fields::be_u64(&sequence[at..end], 0)
 }
 
 // Entry j of the entries of w bytes from a place on.
 fn correction_at(sequence: &[u8], entries: usize, w: usize, j: usize) -> Correction
-    requires { ⌜ ((w ≡ 4) ⊎ (w ≡ 8)) × (entries + w * j ≤ length (now sequence)) ⌝ }
+    requires { ⌜ ((w ≡ 4) ⊎ (w ≡ 8)) × (entries + w * j + w ≤ length (now sequence)) ⌝ }
     ensures value { λ r. ⌜ r ≡ correctionAt (now (sequence .entry)) entries w j ⌝ }
     ensures small { λ r. ⌜ (r .value < 16) × (r .start < 281474976710656) × (r .length ≤ 4096) ⌝ }
 {
@@ -88,7 +90,7 @@ fn correction_at(sequence: &[u8], entries: usize, w: usize, j: usize) -> Correct
 
 // Whether each entry starts at or after the end of the one before and ends within l.
 fn entries_fit(sequence: &[u8], entries: usize, w: usize, n: usize, l: usize) -> bool
-    requires { ⌜ ((w ≡ 4) ⊎ (w ≡ 8)) × ((j : ℕ) → j < n → entries + w * j ≤ length (now sequence)) ⌝ }
+    requires { ⌜ ((w ≡ 4) ⊎ (w ≡ 8)) × ((j : ℕ) → j < n → entries + w * j + w ≤ length (now sequence)) ⌝ }
     ensures { λ r. ⌜ r ≡ every (entryFits (now (sequence .entry)) entries w l) n ⌝ }
 {
     let mut low: usize = 0;
@@ -124,8 +126,8 @@ pub(crate) fn check_table(sequence: &[u8], place: usize, end: usize, l: usize) -
     Checked::Passed
 }
 
-// Writes one code at n places from a start on.
-fn paint(out: &mut [u8], start: usize, n: usize, code: u8)
+// Writes one code at n places from a start on, one by one.
+fn fill(out: &mut [u8], start: usize, n: usize, code: u8)
     requires { ⌜ start + n ≤ length (now out) ⌝ }
     ensures { λ _. ⌜ now (out .exit) ≡ writtenAt start (listTo (λ _. code) n) (now (out .entry)) ⌝ }
 {
@@ -136,9 +138,26 @@ fn paint(out: &mut [u8], start: usize, n: usize, code: u8)
     }
 }
 
+// Writes one code at n places from a start on. Eight to sixteen are two stores of eight, which may meet: most corrections are short.
+fn paint(out: &mut [u8], start: usize, n: usize, code: u8)
+    requires { ⌜ start + n ≤ length (now out) ⌝ }
+    ensures { λ _. ⌜ now (out .exit) ≡ writtenAt start (listTo (λ _. code) n) (now (out .entry)) ⌝ }
+{
+    if n < 8 {
+        fill(out, start, n, code);
+        return;
+    }
+    if n > 16 {
+        fill(out, start, n, code);
+        return;
+    }
+    fill(out, start, 8, code);
+    fill(out, start + (n - 8), 8, code);
+}
+
 // Writes the first n corrections over an output.
 pub(crate) fn correct(sequence: &[u8], entries: usize, w: usize, n: usize, out: &mut [u8])
-    requires { ⌜ ((w ≡ 4) ⊎ (w ≡ 8)) × ((j : ℕ) → j < n → entries + w * j ≤ length (now sequence)) ⌝ }
+    requires { ⌜ ((w ≡ 4) ⊎ (w ≡ 8)) × ((j : ℕ) → j < n → entries + w * j + w ≤ length (now sequence)) ⌝ }
     requires { ⌜ ((j : ℕ) → j < n → correctionEnd (correctionAt (now sequence) entries w j) ≤ length (now out)) ⌝ }
     ensures { λ _. ⌜ now (out .exit) ≡ corrected (now (sequence .entry)) entries w n (now (out .entry)) ⌝ }
 {

@@ -1,8 +1,8 @@
 -- An index that was read: its rules for the calls that go on from it, and how far its tables can lie. Assumes nothing.
-use mathlib.Core.Path.{_≡_, refl, sym, _∙_}
+use mathlib.Core.Path.{_≡_, refl, sym, ap, _∙_}
 use mathlib.Core.Bool.{Bool, true, false, cond}
 use mathlib.Core.List.{List, _++_}
-use Prim.Native.Nat.{ℕ, _+_, _-_, _<_}
+use Prim.Native.Nat.{ℕ, _+_, _*_, _-_, _<_}
 use native.Mathlib.Omega.{arith}
 use borrow.Author.Tests.{ltb-true}
 use lib.Dec.{ltb}
@@ -11,11 +11,12 @@ use Rattle.laws.specs.Rules.{Rule, verdict, AllHold}
 use Rattle.laws.specs.Signed.{toNat}
 use Rattle.laws.proofs.Passing.{passes-with}
 use Rattle.laws.proofs.Rules.{verdict-passes, verdict-append, refused-any}
-use Rattle.fields.specs.Number.{big, signedAt, unsignedAt}
+use Rattle.fields.specs.Number.{big, little, signedAt, unsignedAt}
+use Rattle.answers.specs.Limits.{bytesFit}
 use Rattle.answers.specs.declared.Refusal.{Refusal}
 use Rattle.volume.specs.declared.Index.{Index}
 use Rattle.volume.specs.declared.IndexAnswer.the-variants.{Read, Refused}
-use Rattle.volume.specs.Index.{titleLength, titleEnd, timestampLength, timestampEnd, sequences}
+use Rattle.volume.specs.Index.{volumeType, titleLength, titleEnd, timestampLength, timestampEnd, sequences, residues, longest}
 use Rattle.volume.specs.Index.{headerTable, sequenceTable, ambiguityTable, indexRules, indexOf, readRules, indexAnswer}
 
 not-refused : (x : Index) (r : Refusal) → Refused r ≡ Read x → ⊥
@@ -80,3 +81,53 @@ tables-near index =
     let b = timestamp-below index in
     let n = sequences-below index in
     record { number = n; headersNear = omega arith; sequencesNear = omega arith; ambiguitiesNear = omega arith }
+
+-- ---- the numbers of an index, one by one
+
+pub record NumbersAre (index : List ℕ) (x : Index) : Type 0 where
+  pub kindIs : x .kind ≡ volumeType index
+  pub titleIs : x .«title_length» ≡ titleLength index
+  pub timestampIs : x .«timestamp_length» ≡ timestampLength index
+  pub sequencesIs : x .sequences ≡ sequences index
+  pub ambiguitiesIs : x .«ambiguity_table» ≡ ambiguityTable index
+
+pub numbers-are : (index : List ℕ) (x : Index) → x ≡ indexOf index → NumbersAre index x
+unfolding indexOf
+numbers-are index x e = record {
+  kindIs = ap (λ (y : Index). y .kind) e;
+  titleIs = ap (λ (y : Index). y .«title_length») e;
+  timestampIs = ap (λ (y : Index). y .«timestamp_length») e;
+  sequencesIs = ap (λ (y : Index). y .sequences) e;
+  ambiguitiesIs = ap (λ (y : Index). y .«ambiguity_table») e;
+}
+
+-- each number, read at the place that those before it give
+pub numbers-read : (index : List ℕ) (kind title timestamp n count long : ℕ) → kind ≡ volumeType index → title ≡ titleLength index
+    → timestamp ≡ toNat (signedAt big 4 index (12 + title)) → let at = 12 + title + 4 + timestamp in n ≡ toNat (signedAt big 4 index at)
+    → count ≡ toNat (signedAt little 8 index (at + 4)) → long ≡ toNat (signedAt big 4 index (at + 12))
+    → let header = at + 16 in
+    let size = 4 * (n + 1) in
+    _≡_ {A = Index} record {
+      kind = kind;
+      «title_length» = title;
+      «timestamp_length» = timestamp;
+      sequences = n;
+      residues = count;
+      longest = long;
+      «header_table» = header;
+      «sequence_table» = header + size;
+      «ambiguity_table» = header + size + size;
+    }
+    (indexOf index)
+unfolding indexOf timestampLength sequences residues longest
+numbers-read index kind title timestamp n count long a b c d e f =
+    let g : timestamp ≡ timestampLength index = rw b at c in
+    let h : n ≡ sequences index = rw (b, g) at d in
+    let i : count ≡ residues index = rw (b, g) at e in
+    let j : long ≡ longest index = rw (b, g) at f in
+    rw (a, b, g, h, i, j)
+
+-- the size of an index that was asked before
+pub size-asked : {B : Type 0} (index : List ℕ) (told : Refusal → B) (fine : B) (more : List (Rule Refusal)) → bytesFit index ≡ true
+    → verdict told fine (readRules index ++ more) ≡ verdict told fine (indexRules index ++ more)
+size-asked index told fine more e = rw e

@@ -1,4 +1,5 @@
 // The fixed fields of an index, each at the place that the fields before it give, and their rules.
+use super::Index;
 use answers::Checked;
 use answers::Refusal;
 use fields::natural_at;
@@ -10,7 +11,7 @@ ghost use lib.Signed.{nonNeg};
 ghost use Rattle.laws.specs.Signed.{toNat, eqZ};
 ghost use Rattle.fields.specs.Number.{big, little, signedAt};
 ghost use Rattle.answers.specs.Limits.{checkedBy};
-ghost use Rattle.volume.specs.Index.{volumeType, isType, isProtein, titleLength, titleEnd, timestampLength, timestampEnd, sequences, residues, longest, sequenceTable, ambiguityTable, tablesEnd, titleRules, timestampRules, countRules, tableRules, indexRules};
+ghost use Rattle.volume.specs.Index.{volumeType, isType, isProtein, titleLength, titleEnd, timestampLength, timestampEnd, sequences, residues, longest, sequenceTable, ambiguityTable, tablesEnd, titleRules, timestampRules, countRules, tableRules, indexRules, indexOf};
 
 // The most sequences of a volume.
 const MOST_SEQUENCES: usize = 134217728;
@@ -136,18 +137,42 @@ pub(crate) fn ambiguity_table(index: &[u8]) -> usize
     sequence_table(index) + 4 * (sequence_count(index) + 1)
 }
 
+// The numbers of an index, of any bytes. Each is read once, and the place of the next is made of it.
+pub(crate) fn numbers(index: &[u8]) -> Index
+    ensures { λ r. ⌜ r ≡ indexOf (now (index .entry)) ⌝ }
+{
+    let title = title_length(index);
+    let timestamp = natural_at(index, 12 + title);
+    let at = 12 + title + 4 + timestamp;
+    let n = natural_at(index, at);
+    let size = 4 * (n + 1);
+    Index {
+        kind: volume_type(index),
+        title_length: title,
+        timestamp_length: timestamp,
+        sequences: n,
+        residues: natural_wide_at(index, at + 4),
+        longest: natural_at(index, at + 12),
+        header_table: at + 16,
+        sequence_table: at + 16 + size,
+        ambiguity_table: at + 16 + size + size,
+    }
+}
+
 // The place behind the tables: two for protein, three for DNA.
-fn tables_end(index: &[u8]) -> usize
+fn tables_end(index: &[u8], x: Index) -> usize
+    requires { ⌜ x ≡ indexOf (now index) ⌝ }
     ensures { λ r. ⌜ r ≡ tablesEnd (now (index .entry)) ⌝ }
 {
-    if is_protein(index) {
-        return ambiguity_table(index);
+    if x.kind == 1 {
+        return x.ambiguity_table;
     }
-    ambiguity_table(index) + 4 * (sequence_count(index) + 1)
+    x.ambiguity_table + 4 * (x.sequences + 1)
 }
 
 // Version, type, title length and title.
-fn check_title(index: &[u8]) -> Checked
+fn check_title(index: &[u8], end: usize) -> Checked
+    requires { ⌜ end ≡ titleEnd (now index) ⌝ }
     ensures { λ r. ⌜ r ≡ checkedBy (titleRules (now (index .entry))) ⌝ }
 {
     if index.len() < 4 {
@@ -168,43 +193,44 @@ fn check_title(index: &[u8]) -> Checked
     if !not_negative_at(index, 8) {
         return Checked::Refused(Refusal::OutOfRange);
     }
-    if index.len() < title_end(index) {
+    if index.len() < end {
         return Checked::Refused(Refusal::TooShort);
     }
     Checked::Passed
 }
 
 // Timestamp length and timestamp.
-fn check_timestamp(index: &[u8]) -> Checked
+fn check_timestamp(index: &[u8], title: usize, end: usize) -> Checked
+    requires { ⌜ (title ≡ titleEnd (now index)) × (end ≡ timestampEnd (now index)) × (end < 4294967312) ⌝ }
     ensures { λ r. ⌜ r ≡ checkedBy (timestampRules (now (index .entry))) ⌝ }
 {
-    if index.len() < title_end(index) + 4 {
+    if index.len() < title + 4 {
         return Checked::Refused(Refusal::TooShort);
     }
-    if !not_negative_at(index, title_end(index)) {
+    if !not_negative_at(index, title) {
         return Checked::Refused(Refusal::OutOfRange);
     }
-    if index.len() < timestamp_end(index) {
+    if index.len() < end {
         return Checked::Refused(Refusal::TooShort);
     }
-    if timestamp_end(index) % TIMESTAMP_ALIGNMENT != 0 {
+    if end % TIMESTAMP_ALIGNMENT != 0 {
         return Checked::Refused(Refusal::Misaligned);
     }
     Checked::Passed
 }
 
 // N, residue count and longest.
-fn check_counts(index: &[u8]) -> Checked
+fn check_counts(index: &[u8], at: usize, n: usize) -> Checked
+    requires { ⌜ (at ≡ timestampEnd (now index)) × (n ≡ sequences (now index)) × (at < 4294967312) ⌝ }
     ensures { λ r. ⌜ r ≡ checkedBy (countRules (now (index .entry))) ⌝ }
 {
-    let at = timestamp_end(index);
     if index.len() < at + 4 {
         return Checked::Refused(Refusal::TooShort);
     }
     if !not_negative_at(index, at) {
         return Checked::Refused(Refusal::OutOfRange);
     }
-    if MOST_SEQUENCES < sequence_count(index) {
+    if MOST_SEQUENCES < n {
         return Checked::Refused(Refusal::OutOfRange);
     }
     if index.len() < at + 12 {
@@ -223,10 +249,10 @@ fn check_counts(index: &[u8]) -> Checked
 }
 
 // The tables, and nothing after them.
-fn check_tables(index: &[u8]) -> Checked
+fn check_tables(index: &[u8], end: usize) -> Checked
+    requires { ⌜ end ≡ tablesEnd (now index) ⌝ }
     ensures { λ r. ⌜ r ≡ checkedBy (tableRules (now (index .entry))) ⌝ }
 {
-    let end = tables_end(index);
     if index.len() < end {
         return Checked::Refused(Refusal::TooShort);
     }
@@ -236,18 +262,21 @@ fn check_tables(index: &[u8]) -> Checked
     Checked::Passed
 }
 
-// The rules of an index alone, 1 to 6.
-pub(crate) fn check_index(index: &[u8]) -> Checked
+// The rules of an index alone, 1 to 6, by its numbers.
+pub(crate) fn check_index(index: &[u8], x: Index) -> Checked
+    requires { ⌜ x ≡ indexOf (now index) ⌝ }
     ensures { λ r. ⌜ r ≡ checkedBy (indexRules (now (index .entry))) ⌝ }
 {
-    if let Checked::Refused(r) = check_title(index) {
+    let title = 12 + x.title_length;
+    let at = title + 4 + x.timestamp_length;
+    if let Checked::Refused(r) = check_title(index, title) {
         return Checked::Refused(r);
     }
-    if let Checked::Refused(r) = check_timestamp(index) {
+    if let Checked::Refused(r) = check_timestamp(index, title, at) {
         return Checked::Refused(r);
     }
-    if let Checked::Refused(r) = check_counts(index) {
+    if let Checked::Refused(r) = check_counts(index, at, x.sequences) {
         return Checked::Refused(r);
     }
-    check_tables(index)
+    check_tables(index, tables_end(index, x))
 }

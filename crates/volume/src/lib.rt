@@ -10,6 +10,7 @@ use fixed::ambiguity_table;
 use fixed::check_index;
 use fixed::is_protein;
 use fixed::longest_length;
+use fixed::numbers;
 use fixed::residue_count;
 use fixed::sequence_count;
 use fixed::sequence_table;
@@ -71,20 +72,11 @@ pub fn read_index(index: &[u8]) -> IndexAnswer
     if MOST_BYTES < index.len() {
         return IndexAnswer::Refused(Refusal::TooLarge);
     }
-    if let Checked::Refused(r) = check_index(index) {
+    let x = numbers(index);
+    if let Checked::Refused(r) = check_index(index, x) {
         return IndexAnswer::Refused(r);
     }
-    IndexAnswer::Read(Index {
-        kind: volume_type(index),
-        title_length: title_length(index),
-        timestamp_length: timestamp_length(index),
-        sequences: sequence_count(index),
-        residues: residue_count(index),
-        longest: longest_length(index),
-        header_table: timestamp_end(index) + 16,
-        sequence_table: sequence_table(index),
-        ambiguity_table: ambiguity_table(index),
-    })
+    IndexAnswer::Read(x)
 }
 
 // The sizes of the files, 22.
@@ -110,7 +102,7 @@ fn check_rules(index: &[u8], sequence: &[u8], header: &[u8]) -> Checked
     if let Checked::Refused(r) = check_sizes(index, sequence, header) {
         return Checked::Refused(r);
     }
-    if let Checked::Refused(r) = check_index(index) {
+    if let IndexAnswer::Refused(r) = read_index(index) {
         return Checked::Refused(r);
     }
     check_contents(index, sequence, header)

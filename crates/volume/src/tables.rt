@@ -11,7 +11,7 @@ use answers::Checked;
 use answers::Refusal;
 use fields::natural_at;
 ghost use mathlib.Core.Path.{_≡_};
-ghost use mathlib.Core.Bool.{true};
+ghost use mathlib.Core.Bool.{true, _&&_};
 ghost use mathlib.Core.List.{_++_};
 ghost use Prim.Native.Nat.{_+_, _-_, _*_, _≤_, _<_, max};
 ghost use lib.ListN.{length};
@@ -85,22 +85,32 @@ fn offset_is(index: &[u8], table: usize, k: usize, size: usize) -> bool
     states_at(index, table + 4 * k, size)
 }
 
-// Whether none of n + 1 offsets is below the one before.
+// Whether two tests both pass.
+fn both(a: bool, b: bool) -> bool
+    ensures { λ r. ⌜ r ≡ (a && b) ⌝ }
+{
+    if a {
+        return b;
+    }
+    false
+}
+
+// Whether none of n + 1 offsets is below the one before. The loops over offsets have no early end, so that the compiler asks several
+// offsets at a time.
 fn never_falls(index: &[u8], table: usize, n: usize) -> bool
     requires { ⌜ table + 4 * (n + 1) ≤ length (now index) ⌝ }
     ensures { λ r. ⌜ r ≡ every (notBelow (now (index .entry)) table) n ⌝ }
 {
+    let mut good = true;
     let mut low = offset(index, table, 0);
     let mut i = 0;
     while i < n {
         let next = offset(index, table, i + 1);
-        if next < low {
-            return false;
-        }
+        good = both(good, low <= next);
         low = next;
         i += 1;
     }
-    true
+    good
 }
 
 // Whether each of n + 1 offsets is above the one before.
@@ -108,17 +118,16 @@ fn rises(index: &[u8], table: usize, n: usize) -> bool
     requires { ⌜ table + 4 * (n + 1) ≤ length (now index) ⌝ }
     ensures { λ r. ⌜ r ≡ every (above (now (index .entry)) table) n ⌝ }
 {
+    let mut good = true;
     let mut low = offset(index, table, 0);
     let mut i = 0;
     while i < n {
         let next = offset(index, table, i + 1);
-        if next <= low {
-            return false;
-        }
+        good = both(good, low < next);
         low = next;
         i += 1;
     }
-    true
+    good
 }
 
 // Whether S[k] < A[k] <= S[k+1] for each k below n, for the tables at two places.
@@ -126,21 +135,17 @@ fn ambiguity_between(index: &[u8], s: usize, a: usize, n: usize) -> bool
     requires { ⌜ (s + 4 * (n + 1) ≤ length (now index)) × (a + 4 * (n + 1) ≤ length (now index)) ⌝ }
     ensures { λ r. ⌜ r ≡ every (ambiguityBetween (now (index .entry)) s a) n ⌝ }
 {
+    let mut good = true;
     let mut low = offset(index, s, 0);
     let mut i = 0;
     while i < n {
         let middle = offset(index, a, i);
-        if middle <= low {
-            return false;
-        }
         let next = offset(index, s, i + 1);
-        if next < middle {
-            return false;
-        }
+        good = both(good, both(low < middle, middle <= next));
         low = next;
         i += 1;
     }
-    true
+    good
 }
 
 // The header offsets.

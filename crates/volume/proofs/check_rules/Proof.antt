@@ -8,6 +8,7 @@ use Rattle.volume.specs.Index.{indexRules}
 use Rattle.volume.specs.Tables.{offsetRules, separatorRules, totalRules}
 use Rattle.volume.specs.Volume.{volumeSizeRules, volumeRules}
 use Rattle.volume.proofs.Facts.{few-sequences, whole-tables}
+use Rattle.volume.proofs.Reading.{index-read, index-first, index-refused, size-asked}
 use borrow.Author.Needs.{needs}
 use Rattle.volume.proofs.check_rules.Statement.{statement}
 use Rattle.volume.proofs.check_rules.Tie as tie
@@ -21,19 +22,17 @@ enum-known-r c = search needs
 returns : tie.Need-returns
 unfolding volumeRules
 returns c =
-    let check-sizes = c .before .before .before .check-sizes in
-    let header = now ((c .before .before .before .before .before .before .before .args) .header) in
     let index = now ((c .before .before .before .before .before .before .before .args) .index) in
     let sequence = now ((c .before .before .before .before .before .before .before .args) .sequence) in
-    sym (refused-first (volumeSizeRules index sequence header)
-    (indexRules index ++ (offsetRules index sequence header ++ (separatorRules index sequence ++ totalRules index sequence))) _ _ (check-sizes .ensures)
-    ((c .before .r) .given .1) Refused Passed)
+    let header = now ((c .before .before .before .before .before .before .before .args) .header) in
+    let more = offsetRules index sequence header ++ (separatorRules index sequence ++ totalRules index sequence) in
+    sym (refused-first (volumeSizeRules index sequence header) (indexRules index ++ more) _ _ ((c .before .before .before .check-sizes) .ensures) ((c .before .r) .given .1) Refused Passed)
 
 enum-told : tie.Need-enum-told
 enum-told c = search needs
 
-check-index-requires : tie.Need-check-index-requires
-check-index-requires c κs = search needs
+read-index-requires : tie.Need-read-index-requires
+read-index-requires c κs = search needs
 
 enum-known-r-2 : tie.Need-enum-known-r-2
 enum-known-r-2 c = search needs
@@ -41,17 +40,14 @@ enum-known-r-2 c = search needs
 returns-2 : tie.Need-returns-2
 unfolding volumeRules
 returns-2 c =
-    let check-sizes = c .before .before .before .before .before .before .check-sizes in
-    let told = c .before .before .before .before .enum-told in
-    let check-index = c .before .before .before .check-index in
-    let header = now ((c .before .before .before .before .before .before .before .before .before .before .args) .header) in
     let index = now ((c .before .before .before .before .before .before .before .before .before .before .args) .index) in
     let sequence = now ((c .before .before .before .before .before .before .before .before .before .before .args) .sequence) in
-    sym (passed-first (volumeSizeRules index sequence header)
-    (indexRules index ++ (offsetRules index sequence header ++ (separatorRules index sequence ++ totalRules index sequence))) _ (check-sizes .ensures)
-    (told .given .1) Refused Passed
-    ∙ refused-first (indexRules index) (offsetRules index sequence header ++ (separatorRules index sequence ++ totalRules index sequence)) _ _
-    (check-index .ensures) ((c .before .r2) .given .1) Refused Passed)
+    let header = now ((c .before .before .before .before .before .before .before .before .before .before .args) .header) in
+    let more = offsetRules index sequence header ++ (separatorRules index sequence ++ totalRules index sequence) in
+    let fits = all-hold (volumeSizeRules index sequence header) _ ((c .before .before .before .before .before .before .check-sizes) .ensures) ((c .before .before .before .before .enum-told) .given .1) .0 in
+    sym (passed-first (volumeSizeRules index sequence header) (indexRules index ++ more) _ ((c .before .before .before .before .before .before .check-sizes) .ensures) ((c .before .before .before .before .enum-told) .given .1) Refused Passed
+    ∙ sym (size-asked index Refused Passed more fits)
+    ∙ index-refused index Refused Passed more _ (sym ((c .before .before .before .read-index) .ensures) ∙ (c .before .r2) .given .1))
 
 enum-told-2 : tie.Need-enum-told-2
 enum-told-2 c = search needs
@@ -59,25 +55,22 @@ enum-told-2 c = search needs
 check-contents-requires : tie.Need-check-contents-requires
 check-contents-requires c κs =
     let index = now ((c .before .before .before .before .before .before .before .before .before .args) .index) in
-    let h = all-hold (indexRules index) _ ((c .before .before .check-index) .ensures) ((c .enum-told2) .given .1) in
+    let h = index-read index _ (sym ((c .before .before .read-index) .ensures) ∙ (c .enum-told2) .given .1) .0 .1 in
     (few-sequences index h, whole-tables index h)
 
 returns-3 : tie.Need-returns-3
 unfolding volumeRules
 returns-3 c =
-    let check-sizes = c .before .before .before .before .before .before .check-sizes in
-    let told = c .before .before .before .before .enum-told in
-    let check-index = c .before .before .before .check-index in
-    let header = now ((c .before .before .before .before .before .before .before .before .before .before .args) .header) in
     let index = now ((c .before .before .before .before .before .before .before .before .before .before .args) .index) in
     let sequence = now ((c .before .before .before .before .before .before .before .before .before .before .args) .sequence) in
+    let header = now ((c .before .before .before .before .before .before .before .before .before .before .args) .header) in
+    let more = offsetRules index sequence header ++ (separatorRules index sequence ++ totalRules index sequence) in
+    let fits = all-hold (volumeSizeRules index sequence header) _ ((c .before .before .before .before .before .before .check-sizes) .ensures) ((c .before .before .before .before .enum-told) .given .1) .0 in
+    let read = index-read index _ (sym ((c .before .before .before .read-index) .ensures) ∙ (c .before .enum-told2) .given .1) .0 in
     (c .check-contents) .ensures
-    ∙ sym
-    (passed-first (volumeSizeRules index sequence header)
-    (indexRules index ++ (offsetRules index sequence header ++ (separatorRules index sequence ++ totalRules index sequence))) _ (check-sizes .ensures)
-    (told .given .1) Refused Passed
-    ∙ passed-first (indexRules index) (offsetRules index sequence header ++ (separatorRules index sequence ++ totalRules index sequence)) _
-    (check-index .ensures) ((c .before .enum-told2) .given .1) Refused Passed)
+    ∙ sym (passed-first (volumeSizeRules index sequence header) (indexRules index ++ more) _ ((c .before .before .before .before .before .before .check-sizes) .ensures) ((c .before .before .before .before .enum-told) .given .1) Refused Passed
+    ∙ sym (size-asked index Refused Passed more fits)
+    ∙ index-first index Refused Passed more read)
 
 pub check-rules-spec : {M : Type 1} → statement M
 check-rules-spec =
@@ -87,7 +80,7 @@ check-rules-spec =
     enum-known-r
     returns
     enum-told
-    check-index-requires
+    read-index-requires
     enum-known-r-2
     returns-2
     enum-told-2

@@ -15,7 +15,7 @@ add-entry-at : tie.Need-add-entry-at
 add-entry-at c = search needs
 
 entry-at-requires : tie.Need-entry-at-requires
-entry-at-requires c κs = (c .before .pre) .0
+entry-at-requires c κs = c .before .pre
 
 mul-t6 : tie.Need-mul-t6
 mul-t6 c = let v = value-shift ((c .before .before .args) .w) ((c .before .before .pre) .0) in omega arith

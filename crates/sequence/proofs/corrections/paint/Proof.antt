@@ -1,67 +1,69 @@
--- `sequence::corrections::paint`: the code stands at the places passed, and the rest of the output is as it was. Assumes nothing.
-use mathlib.Core.Path.{_≡_, refl, ap, _∙_}
+-- `sequence::corrections::paint`: two stores of eight, the second over the end of the first, are one of them all. Assumes nothing.
+use mathlib.Core.Path.{_≡_, ap, _∙_}
 use mathlib.Core.List.{List}
 use native.Mathlib.Omega.{arith}
-use Prim.Native.Nat.{ℕ, _≤_, _-_, _+_}
-use lib.ListN.{length, set, length-set}
+use Prim.Native.Nat.{ℕ, _-_, _+_}
 use denote.Ref.{now}
 use Rattle.laws.specs.Places.{listTo}
 use Rattle.laws.specs.Writing.{writtenAt}
-use Rattle.laws.proofs.Storing.{store-none, store-next}
+use Rattle.sequence.proofs.Blocks.{store-block}
 use borrow.Author.Needs.{needs}
 use Rattle.sequence.proofs.corrections.paint.Statement.{statement}
 use Rattle.sequence.proofs.corrections.paint.Tie as tie
 
-abbrev Inv-loop : tie.InvT-loop
-Inv-loop out₀ start n code i₀ out i = (i ≤ n) × (length out ≡ length out₀) × (out ≡ writtenAt start (listTo (λ (k : ℕ). code) i) out₀)
+fill-requires : tie.Need-fill-requires
+fill-requires c κs = search needs
 
-abbrev μ-loop : tie.MeasureT-loop
-μ-loop out₀ start n code i₀ out i = n - i
+same-length : tie.Need-same-length
+same-length c = search needs
 
-loop-holds : tie.Need-loop-holds Inv-loop μ-loop
-loop-holds c = (omega arith, refl, store-none (λ (k : ℕ). (c .args) .code) ((c .args) .start) (now ((c .args) .out)))
+returns : tie.Need-returns
+returns c = (c .before .before .fill) .ensures
 
-add-out : tie.Need-add-out Inv-loop μ-loop
-add-out c = search needs
+fill-requires-2 : tie.Need-fill-requires-2
+fill-requires-2 c κs = search needs
 
-slice-write-out : tie.Need-slice-write-out Inv-loop μ-loop
-slice-write-out c = search needs
+same-length-2 : tie.Need-same-length-2
+same-length-2 c = search needs
 
-add-i : tie.Need-add-i Inv-loop μ-loop
-add-i c = search needs
+returns-2 : tie.Need-returns-2
+returns-2 c = (c .before .before .fill2) .ensures
 
-loop-less : tie.Need-loop-less Inv-loop μ-loop
-loop-less c = search needs
+fill-requires-3 : tie.Need-fill-requires-3
+fill-requires-3 c κs = omega (arith, (c .before .before .before .before .pre))
 
-loop-again : tie.Need-loop-again Inv-loop μ-loop
-loop-again c =
-    let l = (c .before .loop) in
-    let a = (c .before .before .args) in (
-      omega arith,
-      simp length-set (l .inv .1),
-      ap (λ (o : List ℕ). set o (a .start + l .i) (a .code)) (l .inv .2)
-          ∙ store-next (λ (k : ℕ). a .code) (a .start) (l .i) (a .code) (now ((c .before .before .args) .out)) (omega arith) refl,
-    )
+add-fill : tie.Need-add-fill
+add-fill c = search needs
 
-same-length : tie.Need-same-length Inv-loop μ-loop
-same-length c = (c .before .loop) .inv .1
+fill-requires-4 : tie.Need-fill-requires-4
+fill-requires-4 c κs = search needs
 
-returns : tie.Need-returns Inv-loop μ-loop
-returns c = let l = (c .before .loop) in
-    let e : l .i ≡ (c .before .before .args) .n = omega arith in
-    rw (← e) (l .inv .2)
+same-length-3 : tie.Need-same-length-3
+same-length-3 c = search needs
+
+returns-3 : tie.Need-returns-3
+returns-3 c =
+    let a = (c .before .before .before .before .before .before .before .before .before .before .before .args) in
+    let f : ℕ → ℕ = λ _. a .code in
+    let place = a .start + (a .n - 8) in
+    let all : a .n - 8 + 8 ≡ a .n = omega arith in
+    (c .before .before .fill4) .ensures
+    ∙ ap (λ (o : List ℕ). writtenAt place (listTo f 8) o) ((c .before .before .before .before .before .before .fill3) .ensures)
+    ∙ store-block f (a .start) (a .n - 8) 8 8 (now (a .out)) (omega arith) (omega arith) (omega (arith, (c .before .before .before .before .before .before .before .before .before .before .before .pre)))
+    ∙ ap (λ (m : ℕ). writtenAt (a .start) (listTo f m) (now (a .out))) all
 
 pub paint-spec : {M : Type 1} → statement M
 paint-spec =
     tie.close
     (tie.spec
-    Inv-loop
-    μ-loop
-    loop-holds
-    add-out
-    slice-write-out
-    add-i
-    loop-less
-    loop-again
+    fill-requires
     same-length
-    returns)
+    returns
+    fill-requires-2
+    same-length-2
+    returns-2
+    fill-requires-3
+    add-fill
+    fill-requires-4
+    same-length-3
+    returns-3)

@@ -4,12 +4,13 @@ use mathlib.Core.List.{List}
 use native.Mathlib.Omega.{arith}
 use Prim.Native.Nat.{ℕ}
 use mathlib.Core.Bool.{Bool, true}
-use borrow.Author.Tests.{not-true, not-false}
+use borrow.Author.Tests.{not-true, not-false, leb-true}
 use denote.Ref.{now}
 use lib.ListN.{length}
 use Rattle.laws.specs.Places.{every}
+use Rattle.laws.proofs.Places.{every-at}
 use Rattle.sequence.specs.declared.Entry.{Entry}
-use Rattle.sequence.specs.Sequence.{isProteinByte}
+use Rattle.sequence.specs.Sequence.{isProteinByte, mostProteinByte}
 use Rattle.sequence.specs.Placed.{placedProtein}
 use Rattle.sequence.proofs.Answers.{ProteinPassed, protein-refused, protein-passed}
 use borrow.Author.Needs.{needs}
@@ -74,7 +75,12 @@ write-proteins-requires : tie.Need-write-proteins-requires
 write-proteins-requires c κs =
     let low = passed (c .before .before .before .before .before) .rises in
     let high = passed (c .before .before .before .before .before) .inside in
-    (omega arith, search needs)
+    let bytes = good (c .before .before) in
+    let s = c .before .before .before .before .before .before .before .before .before .before in (
+      omega arith,
+      λ i h. leb-true _ mostProteinByte (every-at (isProteinByte (sequence s) (entry s .start)) (placedProtein (entry s)) i h bytes),
+      search needs,
+    )
 
 same-length : tie.Need-same-length
 same-length c = search needs

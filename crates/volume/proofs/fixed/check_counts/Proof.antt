@@ -24,62 +24,54 @@ abbrev Past : ℕ → tie.Start → Type 0
 Past k s = (x : Checked) → x ≡ checkedBy (drop k (countRules (index s))) → x ≡ checkedBy (countRules (index s))
 
 -- the signs that the calls told are those of the fields
-number-natural : (c : tie.After-not-negative-at) → c .not-negative-at .result ≡ nonNeg (statedSequences (index (c .before .before .before .before)))
+number-natural : (c : tie.After-not-negative-at) → c .not-negative-at .result ≡ nonNeg (statedSequences (index (c .before .before .before)))
 number-natural c =
-    let i = index (c .before .before .before .before) in
-    c .not-negative-at .ensures ∙ ap (λ (x : ℕ). nonNeg (signedAt big 4 i x)) (c .before .before .timestamp-end .ensures .0)
+    let s = c .before .before .before in
+    c .not-negative-at .ensures ∙ ap (λ (x : ℕ). nonNeg (signedAt big 4 (index s) x)) (s .pre .0)
 
-residues-natural : (c : tie.After-not-negative-wide-at)
-    → c .not-negative-wide-at .result ≡ nonNeg (statedResidues (index (c .before .before .before .before .before .before .before .before .before)))
+residues-natural : (c : tie.After-not-negative-wide-at) → c .not-negative-wide-at .result ≡ nonNeg (statedResidues (index (c .before .before .before .before .before .before .before)))
 residues-natural c =
-    let timestamp-end = c .before .before .before .before .before .before .before .timestamp-end in
-    let i = index (c .before .before .before .before .before .before .before .before .before) in
-    c .not-negative-wide-at .ensures ∙ ap (λ (x : ℕ). nonNeg (signedAt little 8 i (x + 4))) (timestamp-end .ensures .0)
+    let s = c .before .before .before .before .before .before .before in
+    c .not-negative-wide-at .ensures ∙ ap (λ (x : ℕ). nonNeg (signedAt little 8 (index s) (x + 4))) (s .pre .0)
 
-longest-natural : (c : tie.After-not-negative-at2)
-    → c .not-negative-at2 .result
-    ≡ nonNeg (statedLongest (index (c .before .before .before .before .before .before .before .before .before .before .before .before)))
+longest-natural : (c : tie.After-not-negative-at2) → c .not-negative-at2 .result ≡ nonNeg (statedLongest (index (c .before .before .before .before .before .before .before .before .before .before)))
 longest-natural c =
-    let timestamp-end = c .before .before .before .before .before .before .before .before .before .before .timestamp-end in
-    let i = index (c .before .before .before .before .before .before .before .before .before .before .before .before) in
-    c .not-negative-at2 .ensures ∙ ap (λ (x : ℕ). nonNeg (signedAt big 4 i (x + 12))) (timestamp-end .ensures .0)
+    let s = c .before .before .before .before .before .before .before .before .before .before in
+    c .not-negative-at2 .ensures ∙ ap (λ (x : ℕ). nonNeg (signedAt big 4 (index s) (x + 12))) (s .pre .0)
 
-past1 : (c : tie.Else1) → Past 1 (c .before .before .before)
+past1 : (c : tie.Else1) → Past 1 (c .before .before)
 past1 c x e =
-    let i = index (c .before .before .before) in
-    rw (le-leb _ _ (let h : timestampEnd i + 4 ≤ length i = omega arith in h)) e
+    let s = c .before .before in
+    rw (le-leb _ _ (let h : timestampEnd (index s) + 4 ≤ length (index s) = omega (arith, s .pre .0) in h)) e
 
-past2 : (c : tie.Else2) → Past 2 (c .before .before .before .before .before)
+past2 : (c : tie.Else2) → Past 2 (c .before .before .before .before)
 past2 c x e = past1 (c .before .before) _ (rw (passes (number-natural (c .before)) (c .if2 .left)) e)
 
-past3 : (c : tie.Else3) → Past 3 (c .before .before .before .before .before .before .before)
+past3 : (c : tie.Else3) → Past 3 (c .before .before .before .before .before)
 past3 c x e =
-    let i = index (c .before .before .before .before .before .before .before) in
-    past2 (c .before .before) _ (rw (le-leb _ _ (let h : sequences i ≤ mostSequences = omega arith in h)) e)
+    let s = c .before .before .before .before .before in
+    past2 (c .before) _ (rw (le-leb _ _ (let h : sequences (index s) ≤ mostSequences = omega (arith, s .pre .1) in h)) e)
 
-past4 : (c : tie.Else4) → Past 4 (c .before .before .before .before .before .before .before .before)
+past4 : (c : tie.Else4) → Past 4 (c .before .before .before .before .before .before)
 past4 c x e =
-    let i = index (c .before .before .before .before .before .before .before .before) in
-    past3 (c .before) _ (rw (le-leb _ _ (let h : timestampEnd i + 12 ≤ length i = omega arith in h)) e)
+    let s = c .before .before .before .before .before .before in
+    past3 (c .before) _ (rw (le-leb _ _ (let h : timestampEnd (index s) + 12 ≤ length (index s) = omega (arith, s .pre .0) in h)) e)
 
-past5 : (c : tie.Else5) → Past 5 (c .before .before .before .before .before .before .before .before .before .before)
+past5 : (c : tie.Else5) → Past 5 (c .before .before .before .before .before .before .before .before)
 past5 c x e = past4 (c .before .before) _ (rw (passes (residues-natural (c .before)) (c .if5 .left)) e)
 
-past6 : (c : tie.Else6) → Past 6 (c .before .before .before .before .before .before .before .before .before .before .before)
+past6 : (c : tie.Else6) → Past 6 (c .before .before .before .before .before .before .before .before .before)
 past6 c x e =
-    let i = index (c .before .before .before .before .before .before .before .before .before .before .before) in
-    past5 (c .before) _ (rw (le-leb _ _ (let h : headerTable i ≤ length i = omega arith in h)) e)
-
-timestamp-end-requires : tie.Need-timestamp-end-requires
-timestamp-end-requires c κs = search needs
+    let s = c .before .before .before .before .before .before .before .before .before in
+    past5 (c .before) _ (rw (le-leb _ _ (let h : headerTable (index s) ≤ length (index s) = omega (arith, s .pre .0) in h)) e)
 
 add-if1 : tie.Need-add-if1
 add-if1 c = search needs
 
 returns : tie.Need-returns
 returns c =
-    let i = index (c .before .before .before) in
-    rw (lt-leb _ _ (let h : length i < timestampEnd i + 4 = omega arith in h))
+    let s = c .before .before in
+    rw (lt-leb _ _ (let h : length (index s) < timestampEnd (index s) + 4 = omega (arith, s .pre .0) in h))
 
 not-negative-at-requires : tie.Need-not-negative-at-requires
 not-negative-at-requires c κs = search needs
@@ -87,21 +79,18 @@ not-negative-at-requires c κs = search needs
 returns-2 : tie.Need-returns-2
 returns-2 c = past1 (c .before .before) _ (rw (fails (number-natural (c .before)) (c .if2 .taken)))
 
-sequence-count-requires : tie.Need-sequence-count-requires
-sequence-count-requires c κs = search needs
-
 returns-3 : tie.Need-returns-3
 returns-3 c =
-    let i = index (c .before .before .before .before .before .before .before) in
-    past2 (c .before .before) _ (rw (lt-leb _ _ (let h : mostSequences < sequences i = omega arith in h)))
+    let s = c .before .before .before .before .before in
+    past2 (c .before) _ (rw (lt-leb _ _ (let h : mostSequences < sequences (index s) = omega (arith, s .pre .1) in h)))
 
 add-if4 : tie.Need-add-if4
 add-if4 c = search needs
 
 returns-4 : tie.Need-returns-4
 returns-4 c =
-    let i = index (c .before .before .before .before .before .before .before .before) in
-    past3 (c .before) _ (rw (lt-leb _ _ (let h : length i < timestampEnd i + 12 = omega arith in h)))
+    let s = c .before .before .before .before .before .before in
+    past3 (c .before) _ (rw (lt-leb _ _ (let h : length (index s) < timestampEnd (index s) + 12 = omega (arith, s .pre .0) in h)))
 
 add-not-negative-wide-at : tie.Need-add-not-negative-wide-at
 add-not-negative-wide-at c = search needs
@@ -117,8 +106,8 @@ add-if6 c = search needs
 
 returns-6 : tie.Need-returns-6
 returns-6 c =
-    let i = index (c .before .before .before .before .before .before .before .before .before .before .before) in
-    past5 (c .before) _ (rw (lt-leb _ _ (let h : length i < headerTable i = omega arith in h)))
+    let s = c .before .before .before .before .before .before .before .before .before in
+    past5 (c .before) _ (rw (lt-leb _ _ (let h : length (index s) < headerTable (index s) = omega (arith, s .pre .0) in h)))
 
 add-not-negative-at : tie.Need-add-not-negative-at
 add-not-negative-at c = search needs
@@ -136,12 +125,10 @@ pub check-counts-spec : {M : Type 1} → statement M
 check-counts-spec =
     tie.close
     (tie.spec
-    timestamp-end-requires
     add-if1
     returns
     not-negative-at-requires
     returns-2
-    sequence-count-requires
     returns-3
     add-if4
     returns-4

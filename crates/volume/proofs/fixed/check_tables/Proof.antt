@@ -9,7 +9,6 @@ use lib.ListN.{length, drop}
 use Rattle.answers.specs.Limits.{checkedBy}
 use Rattle.answers.specs.declared.Checked.{Checked}
 use Rattle.volume.specs.Index.{tablesEnd, tableRules}
-use borrow.Author.Needs.{needs}
 use Rattle.volume.proofs.fixed.check_tables.Statement.{statement}
 use Rattle.volume.proofs.fixed.check_tables.Tie as tie
 
@@ -20,28 +19,25 @@ index s = now (s .args .index)
 abbrev Past : ℕ → tie.Start → Type 0
 Past k s = (x : Checked) → x ≡ checkedBy (drop k (tableRules (index s))) → x ≡ checkedBy (tableRules (index s))
 
-past1 : (c : tie.Else1) → Past 1 (c .before .before .before)
+past1 : (c : tie.Else1) → Past 1 (c .before)
 past1 c x e =
-    let i = index (c .before .before .before) in
-    rw (le-leb _ _ (let h : tablesEnd i ≤ length i = omega arith in h)) e
-
-tables-end-requires : tie.Need-tables-end-requires
-tables-end-requires c κs = search needs
+    let i = index (c .before) in
+    rw (le-leb _ _ (let h : tablesEnd i ≤ length i = omega (arith, c .before .pre) in h)) e
 
 returns : tie.Need-returns
 returns c =
-    let i = index (c .before .before .before) in
-    rw (lt-leb _ _ (let h : length i < tablesEnd i = omega arith in h))
+    let i = index (c .before) in
+    rw (lt-leb _ _ (let h : length i < tablesEnd i = omega (arith, c .before .pre) in h))
 
 returns-2 : tie.Need-returns-2
 returns-2 c =
-    let i = index (c .before .before .before .before) in
-    past1 (c .before) _ (rw (lt-leb _ _ (let h : tablesEnd i < length i = omega arith in h)))
+    let s = c .before .before in
+    past1 (c .before) _ (rw (lt-leb _ _ (let h : tablesEnd (index s) < length (index s) = omega (arith, s .pre) in h)))
 
 returns-3 : tie.Need-returns-3
 returns-3 c =
-    let i = index (c .before .before .before .before) in
-    past1 (c .before) _ (rw (le-leb _ _ (let h : length i ≤ tablesEnd i = omega arith in h)))
+    let s = c .before .before in
+    past1 (c .before) _ (rw (le-leb _ _ (let h : length (index s) ≤ tablesEnd (index s) = omega (arith, s .pre) in h)))
 
 pub check-tables-spec : {M : Type 1} → statement M
-check-tables-spec = tie.close (tie.spec tables-end-requires returns returns-2 returns-3)
+check-tables-spec = tie.close (tie.spec returns returns-2 returns-3)

@@ -66,18 +66,15 @@ not-negative-at-requires c κs = search needs
 returns-6 : tie.Need-returns-6
 returns-6 c = past5 (c .before .before) _ (rw (fails (c .before .not-negative-at .ensures) (c .if6 .taken)))
 
-title-end-requires : tie.Need-title-end-requires
-title-end-requires c κs = search needs
-
 returns-7 : tie.Need-returns-7
 returns-7 c =
-    let i = index (c .before .before .before .before .before .before .before .before .before .before .before .before) in
-    past6 (c .before .before) _ (rw (lt-leb _ _ (let h : length i < titleEnd i = omega arith in h)))
+    let s = c .before .before .before .before .before .before .before .before .before .before .before in
+    past6 (c .before) _ (rw (lt-leb _ _ (let h : length (index s) < titleEnd (index s) = omega (arith, s .pre) in h)))
 
 returns-8 : tie.Need-returns-8
 returns-8 c =
-    let i = index (c .before .before .before .before .before .before .before .before .before .before .before .before) in
-    past6 (c .before .before) _ (rw (le-leb _ _ (let h : titleEnd i ≤ length i = omega arith in h)))
+    let s = c .before .before .before .before .before .before .before .before .before .before .before in
+    past6 (c .before) _ (rw (le-leb _ _ (let h : titleEnd (index s) ≤ length (index s) = omega (arith, s .pre) in h)))
 
 pub check-title-spec : {M : Type 1} → statement M
 check-title-spec =
@@ -92,6 +89,5 @@ check-title-spec =
     returns-5
     not-negative-at-requires
     returns-6
-    title-end-requires
     returns-7
     returns-8)

@@ -39,7 +39,7 @@ unfolding offsetAt
 returns c =
     let index = now ((c .before .before .before .args) .index) in
     let s = (c .before .before .before .args) .table + 4 * (c .before .before .before .args) .k in
-    let e = (c .be-u32) .ensures ∙ part-unsigned index s (s + 4) refl ∙ natural-field index s ((c .before .before .before .pre) .1) in
+    let e = (c .be-u32) .ensures ∙ part-unsigned 4 index s (s + 4) refl ∙ natural-field index s ((c .before .before .before .pre) .1) in
     (e, rw e (stated-below index s))
 
 pub natural-place-spec : {M : Type 1} → statement M
