@@ -60,7 +60,7 @@ loop-less : tie.Need-loop-less Inv-loop μ-loop
 loop-less c = omega (arith, taken (c .before), some (c .before) (c .if1 .left))
 
 loop-again : tie.Need-loop-again Inv-loop μ-loop
-loop-again c = 
+loop-again c =
     let l = c .before .before .before .loop in
     let e = taken (c .before) in
     (omega (arith, some (c .before) (c .if1 .left)), omega arith, count-goes _ _ (l .at) _ e (l .count) (l .inv .2) (c .if1 .left))

@@ -45,7 +45,7 @@ is-last-requires : tie.Need-is-last-requires
 is-last-requires c κs = search needs
 
 returns-3 : tie.Need-returns-3
-returns-3 c = 
+returns-3 c =
     let s = c .before .before .before .before .before .before .before in
     found-open (s .args .alphabet) (packets s) (length (packets s) - 1) (omega arith) (no-fault (c .before .before .before)) _ refl _ (c .before .is-last .ensures)
     (not-true _ (c .if3 .taken))
@@ -57,15 +57,19 @@ residue-count-requires : tie.Need-residue-count-requires
 residue-count-requires c κs = search needs
 
 add-t13 : tie.Need-add-t13
-add-t13 c = 
+add-t13 c =
     let s = c .before .before .before .before .before .before .before .before .before in
     let m = c .before .count-codes in
     let k = c .residue-count in
-    omega (arith, s .pre, found-most (s .args .alphabet) (packets s) (length (packets s) - 1) (omega arith) (no-fault (c .before .before .before .before .before)) _ refl
-    _ (c .before .before .before .is-last .ensures) (m .result) (k .result) (m .ensures) (k .ensures))
+    omega (
+      arith,
+      s .pre,
+      found-most (s .args .alphabet) (packets s) (length (packets s) - 1) (omega arith) (no-fault (c .before .before .before .before .before)) _ refl
+          _ (c .before .before .before .is-last .ensures) (m .result) (k .result) (m .ensures) (k .ensures),
+    )
 
 returns-4 : tie.Need-returns-4
-returns-4 c = 
+returns-4 c =
     let s = c .before .before .before .before .before .before .before .before .before in
     found-run (s .args .alphabet) (packets s) (length (packets s) - 1) (omega arith) (no-fault (c .before .before .before .before .before)) _ refl
     _ (c .before .before .before .is-last .ensures) _ _ (c .before .count-codes .ensures) (c .residue-count .ensures) (not-false _ (c .before .before .if3 .left))

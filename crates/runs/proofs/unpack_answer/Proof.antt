@@ -46,18 +46,18 @@ enum-told : tie.Need-enum-told
 enum-told c = search needs
 
 returns-3 : tie.Need-returns-3
-returns-3 c = 
+returns-3 c =
     let r = c .before .before .read-run in
     sym (large-not (c .before .before .before .before .before) ∙ run-bad _ _ _ (known (c .before .before .before)) (read-not _ _ (r .result) (r .ensures) (c .enum-told .given .1)))
 
 returns-4 : tie.Need-returns-4
-returns-4 c = 
+returns-4 c =
     let f = read (c .before .before) in
     let n = f .1 in
     sym (large-not (c .before .before .before .before .before .before .before) ∙ run-full _ _ _ (known (c .before .before .before .before .before)) (f .0) (omega arith))
 
 returns-5 : tie.Need-returns-5
-returns-5 c = 
+returns-5 c =
     let f = read (c .before .before) in
     let n = f .1 in
     ap (λ (l : ℕ). Unpacked (length (now (c .before .before .before .before .before .before .before .before .before .args .packets))) l) n
