@@ -1,6 +1,8 @@
 pub mod Stores
+pub mod Packed
+pub mod Runs
+pub mod Fives
 pub mod Sixes
-pub mod Amino
 pub mod Answers
 pub mod Rules
 pub mod Bodies

@@ -14,6 +14,7 @@ use Rattle.fields.specs.Number.{little, number, unsignedAt}
 use Rattle.fields.specs.Written.{littleBytes, numberPut}
 use Rattle.fields.proofs.Laws.{put-fits, unsigned-bytes, little-four}
 use Rattle.packets.specs.Positions.{byteOf}
+use Rattle.packets.specs.Packing.{fourFrom}
 use Rattle.packets.specs.Bytes.{packetsOf, bytesOf}
 use Rattle.packets.proofs.Bytes.{packets-at, bytes-cons, bytes-none, packets-bytes}
 
@@ -27,13 +28,19 @@ pub packet-read : (bytes : List ℕ) (place : ℕ) → place < length bytes / 4 
 packet-read bytes place h k = rw (byte-is place (length bytes) h k) (sym (packets-at bytes place h))
 
 -- its four bytes, as the code adds them up
-pub packet-sum : (bytes : List ℕ) (place at a b c d : ℕ) → place < length bytes / 4 → length bytes ≤ 18446744073709551615 → at ≡ byteOf 0 place
-    → a ≡ getD bytes at 0 → b ≡ getD bytes (at + 1) 0 → c ≡ getD bytes (at + 2) 0 → d ≡ getD bytes (at + 3) 0
-    → a + b * 256 + c * 65536 + d * 16777216 ≡ getD (packetsOf bytes) place 0
-packet-sum bytes place at a b c d h k q e f g i =
+pub packet-sum : (bytes : List ℕ) (place at : ℕ) → place < length bytes / 4 → length bytes ≤ 18446744073709551615 → at ≡ byteOf 0 place
+    → fourFrom bytes at ≡ getD (packetsOf bytes) place 0
+packet-sum bytes place at h k q =
     let z : at + 0 ≡ at = omega arith in
-    little-four bytes at 0 a b c d (rw z e) f g i
+    little-four bytes at 0 (getD bytes at 0) (getD bytes (at + 1) 0) (getD bytes (at + 2) 0) (getD bytes (at + 3) 0) (rw z) refl refl refl
     ∙ (sym (unsigned-bytes little 4 bytes at) ∙ (ap (λ (n : ℕ). unsignedAt little 4 bytes n) q ∙ packet-read bytes place h k))
+
+-- a packet's bytes, written at its place
+pub packet-put : (p place at bound : ℕ) (out : List ℕ) → place < bound / 4 → bound ≤ 18446744073709551615 → at ≡ byteOf 0 place
+    → writtenAt at (littleBytes 4 p) out ≡ writtenAt (4 * place) (bytesOf (p ∷ [])) out
+packet-put p place at bound out h k q =
+    ap (λ (n : ℕ). writtenAt n (littleBytes 4 p) out) (q ∙ byte-is place bound h k)
+    ∙ ap (λ (l : List ℕ). writtenAt (4 * place) l out) (sym (bytes-cons p [] ∙ ap (λ (l : List ℕ). littleBytes 4 p ++ l) bytes-none))
 
 -- S are the bytes of a run, d the bytes at first, P where the run begins, and `to` the next byte
 module _ (S d : List ℕ) (P to : ℕ) (out : List ℕ) (low : P ≤ to) (so-far : out ≡ paste d P S (to - P)) (p : ℕ) (more : List ℕ)

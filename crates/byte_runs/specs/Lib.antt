@@ -1,3 +1,4 @@
+pub mod Packed
 pub mod Sixes
 pub mod Bytes
 pub mod Rules
