@@ -2,6 +2,8 @@ pub mod Stores
 pub mod Packed
 pub mod Runs
 pub mod Fives
+pub mod Twos
+pub mod Begun
 pub mod Sixes
 pub mod Answers
 pub mod Rules

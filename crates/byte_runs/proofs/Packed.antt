@@ -107,6 +107,10 @@ module _ (f : List ℕ → ℕ) (s : ℕ) where
   unfolding partsBy
   parts-none cs d = store-none (λ k. f (drop (s * k) cs)) 0 d
 
+  pub bytes-start : (cs d : List ℕ) → d ≡ writtenAt 0 (bytesOf (partsBy f s cs 0)) d
+  unfolding partsBy
+  bytes-start cs d = put-none [] d
+
   pub parts-more : (cs : List ℕ) (n p : ℕ) (d out : List ℕ) → out ≡ writtenAt 0 (partsBy f s cs n) d → n < length d → p ≡ f (drop (s * n) cs)
       → set out n p ≡ writtenAt 0 (partsBy f s cs (n + 1)) d
   unfolding partsBy
@@ -134,6 +138,23 @@ module _ (f : List ℕ → ℕ) (s : ℕ) where
       ∙ (ap (λ (l : List ℕ). l ++ (f (drop (s * (i + m)) cs) ∷ [])) (parts-append cs i m)
       ∙ (append-assoc (partsBy f s cs i) (partsBy f s (drop (s * i) cs) m) (f (drop (s * (i + m)) cs) ∷ [])
       ∙ ap (λ (l : List ℕ). partsBy f s cs i ++ (partsBy f s (drop (s * i) cs) m ++ (f l ∷ []))) g))
+
+  pub parts-length : (cs : List ℕ) (n : ℕ) (d out : List ℕ) → out ≡ writtenAt 0 (bytesOf (partsBy f s cs n)) d → 4 * n ≤ length d → length out ≡ length d
+  parts-length cs n d out e h =
+      ap length e ∙ length-written 0 (bytesOf (partsBy f s cs n)) d (omega (arith, length-bytes (partsBy f s cs n), length-parts cs n))
+
+  -- m more behind n, made of a part of the codes, and written at the start of a part of the output
+  pub parts-behind : (cs : List ℕ) (n m : ℕ) (d out ps ys : List ℕ) (at : ℕ) → out ≡ writtenAt 0 (bytesOf (partsBy f s cs n)) d → 4 * (n + m) ≤ length d
+      → length out ≡ length d → ps ≡ partsBy f s (midOf (s * n) (length cs - s * n) cs) m → at ≡ 4 * n
+      → ys ≡ writtenAt 0 (bytesOf ps) (midOf at (length out - at) out) → putMid at (length out - at) out ys ≡ writtenAt 0 (bytesOf (partsBy f s cs (n + m))) d
+  parts-behind cs n m d out ps ys at so-far room same e q w =
+      let qs = partsBy f s (drop (s * n) cs) m in
+      let l : length (partsBy f s cs n) ≡ n = length-parts cs n in
+      let k : length qs ≡ m = length-parts (drop (s * n) cs) m in
+      part-put at out ys (bytesOf ps) w (omega arith)
+      ∙ (ap (λ (x : ℕ). writtenAt x (bytesOf ps) out) q
+      ∙ (ap (λ (x : List ℕ). writtenAt (4 * n) (bytesOf x) out) (e ∙ ap (λ (x : List ℕ). partsBy f s x m) (part-rest cs (s * n)))
+      ∙ (put-behind (partsBy f s cs n) qs d out n so-far (sym l) (omega arith) ∙ ap (λ (x : List ℕ). writtenAt 0 (bytesOf x) d) (sym (parts-append cs n m)))))
 
   -- some of them, from packet k on
   module _ (cs : List ℕ) (n k m : ℕ) (h : k + m ≤ n) where

@@ -1,6 +1,6 @@
 -- A run of packets that each take as many codes. Assumes nothing.
 use mathlib.Core.Path.{_≡_, refl, sym, ap, _∙_}
-use mathlib.Core.Bool.{false}
+use mathlib.Core.Bool.{true, false}
 use mathlib.Core.List.{List, [], _∷_, _++_, append-assoc}
 use Prim.Native.Nat.{ℕ, zero, suc, _+_, _*_, _-_, _/_, _≤_, _<_}
 use native.Mathlib.Nat.{zero-add, mul-zero, mul-suc}
@@ -8,15 +8,15 @@ use native.Mathlib.Omega.{arith}
 use borrow.Author.Tests.{lt-leb}
 use lib.ListN.{length, drop, length-append, length-drop}
 use Rattle.laws.specs.Writing.{writtenAt}
-use Rattle.packets.specs.Packing.{isTwoBit, fiveBitPart, packet, run, size, sixes}
+use Rattle.packets.specs.Packing.{isTwoBit, twoBitPart, fiveBitPart, packet, run, size, sixes}
 use Rattle.packets.specs.Bytes.{bytesOf}
-use Rattle.packets.proofs.Packing.{amino-five, size-five, packet-five}
+use Rattle.packets.proofs.Packing.{amino-five, size-two, size-five, packet-two, packet-five}
 use Rattle.runs.proofs.Turns.{run-ends, run-goes}
 use Rattle.byte_runs.specs.Packed.{partsBy, fives}
 use Rattle.byte_runs.proofs.Packed.{length-parts, put-behind}
 
 -- each of the first n packets is what f makes of its codes
-run-parts : (a : ℕ) (f : List ℕ → ℕ) (s : ℕ) (cs : List ℕ) (n : ℕ)
+pub run-parts : (a : ℕ) (f : List ℕ → ℕ) (s : ℕ) (cs : List ℕ) (n : ℕ)
     → ((k : ℕ) → k < n → run a (drop (s * k) cs) ≡ f (drop (s * k) cs) ∷ run a (drop (s * k + s) cs)) → run a cs ≡ partsBy f s cs n ++ run a (drop (s * n) cs)
 unfolding partsBy
 run-parts a f s cs zero g = rw (mul-zero s)
@@ -39,6 +39,15 @@ module _ (a : ℕ) (cs : List ℕ) (at : ℕ) (five : isTwoBit a (drop at cs) �
       let p : packet a (drop at cs) ≡ fiveBitPart (drop at cs) =
       packet-five a (drop at cs) (length (drop at cs)) five ∙ (rw (lt-leb (length (drop at cs)) 6 k) (zero-add (fiveBitPart (drop at cs)))) in
       run-goes a cs at 6 (size-left h) h ∙ ap (λ (x : ℕ). x ∷ run a (drop (at + 6) cs)) p
+
+-- a 2-bit packet, where more are left
+pub two-goes : (a : ℕ) (cs : List ℕ) (at : ℕ) → isTwoBit a (drop at cs) ≡ true → 15 < length cs - at
+    → run a (drop at cs) ≡ twoBitPart (drop at cs) ∷ run a (drop (at + 15) cs)
+two-goes a cs at two h =
+    let k : 15 < length (drop at cs) = omega (arith, length-drop at cs) in
+    let p : packet a (drop at cs) ≡ twoBitPart (drop at cs) =
+    packet-two a (drop at cs) (length (drop at cs)) two ∙ (rw (lt-leb (length (drop at cs)) 15 k) (zero-add (twoBitPart (drop at cs)))) in
+    run-goes a cs at 15 (sym (size-two a (drop at cs) (length (drop at cs)) two)) h ∙ ap (λ (x : ℕ). x ∷ run a (drop (at + 15) cs)) p
 
 -- an amino run: whole packets, and the last
 module _ (cs : List ℕ) (w : ℕ) (e : w ≡ sixes (length cs) - 1) where

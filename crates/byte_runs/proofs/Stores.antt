@@ -4,15 +4,13 @@ use mathlib.Core.Bool.{true}
 use mathlib.Core.List.{List, [], _∷_, _++_}
 use Prim.Native.Nat.{ℕ, zero, suc, _+_, _*_, _-_, _/_, _%_, _^_, _≤_, _<_}
 use native.Mathlib.Omega.{arith}
-use lib.ListN.{length, drop, getD, length-drop, length-append}
-use lib.Seq.{paste, length-paste}
+use lib.ListN.{length, getD}
 use Rattle.laws.specs.Digits.{allBelow}
 use Rattle.laws.specs.Writing.{writtenAt}
 use Rattle.laws.proofs.Digits.{below-none, below-cons, below-parts}
-use Rattle.laws.proofs.Writing.{paste-whole, paste-part, rest-part}
 use Rattle.fields.specs.Number.{little, number, unsignedAt}
-use Rattle.fields.specs.Written.{littleBytes, numberPut}
-use Rattle.fields.proofs.Laws.{put-fits, unsigned-bytes, little-four}
+use Rattle.fields.specs.Written.{littleBytes}
+use Rattle.fields.proofs.Laws.{unsigned-bytes, little-four}
 use Rattle.packets.specs.Positions.{byteOf}
 use Rattle.packets.specs.Packing.{fourFrom}
 use Rattle.packets.specs.Bytes.{packetsOf, bytesOf}
@@ -41,41 +39,6 @@ pub packet-put : (p place at bound : ℕ) (out : List ℕ) → place < bound / 4
 packet-put p place at bound out h k q =
     ap (λ (n : ℕ). writtenAt n (littleBytes 4 p) out) (q ∙ byte-is place bound h k)
     ∙ ap (λ (l : List ℕ). writtenAt (4 * place) l out) (sym (bytes-cons p [] ∙ ap (λ (l : List ℕ). littleBytes 4 p ++ l) bytes-none))
-
--- S are the bytes of a run, d the bytes at first, P where the run begins, and `to` the next byte
-module _ (S d : List ℕ) (P to : ℕ) (out : List ℕ) (low : P ≤ to) (so-far : out ≡ paste d P S (to - P)) (p : ℕ) (more : List ℕ)
-    (rest : drop (to - P) S ≡ littleBytes 4 p ++ more) (room : P + length S ≤ length d) where
-  behind : to - P + 4 ≤ length S
-  behind = omega (arith, length-drop (to - P) S, ap length rest, length-append (littleBytes 4 p) more)
-
-  same : length out ≡ length d
-  same = ap length so-far ∙ length-paste d P S (to - P) (omega (arith, behind)) (omega (arith, behind))
-
-  put-is : numberPut 4 to p out ≡ paste out to (littleBytes 4 p) 4
-  put-is = put-fits 4 to p out (omega (arith, same, behind)) ∙ sym (paste-whole to (littleBytes 4 p) out)
-
-  pub bytes-room : to + 4 ≤ length d
-  bytes-room = omega (arith, behind)
-
-  pub bytes-go : numberPut 4 to p out ≡ paste d P S (to + 4 - P)
-  bytes-go =
-      let here : P + (to - P) ≡ to = omega arith in
-      let next : to - P + 4 ≡ to + 4 - P = omega arith in
-      put-is
-      ∙ (ap (λ (l : List ℕ). paste l to (littleBytes 4 p) 4) so-far
-      ∙ (ap (λ (n : ℕ). paste (paste d P S (to - P)) n (littleBytes 4 p) 4) (sym here)
-      ∙ (paste-part d P S (to - P) (littleBytes 4 p) more (omega arith) (omega (arith, behind)) rest ∙ ap (λ (n : ℕ). paste d P S n) next)))
-
-  pub bytes-behind : drop (to + 4 - P) S ≡ more
-  bytes-behind =
-      let next : to - P + 4 ≡ to + 4 - P = omega arith in
-      ap (λ (n : ℕ). drop n S) (sym next) ∙ rest-part S (to - P) (littleBytes 4 p) more rest
-
-  pub bytes-end : more ≡ [] → numberPut 4 to p out ≡ writtenAt P S d
-  bytes-end e =
-      let n : to + 4 - P ≡ length S =
-      omega (arith, length-drop (to - P) S, ap length rest, length-append (littleBytes 4 p) more, ap length e) in
-      bytes-go ∙ rw n (paste-whole P S d)
 
 -- ---- whole bytes are those of the packets that they stand for
 

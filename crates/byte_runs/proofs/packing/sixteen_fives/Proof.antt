@@ -1,7 +1,7 @@
 -- `byte_runs::packing::sixteen_fives`: the packets made so far. Assumes nothing.
-use mathlib.Core.Path.{_≡_, refl, _∙_}
+use mathlib.Core.Path.{_≡_, refl}
 use native.Mathlib.Omega.{arith}
-use Prim.Native.Nat.{ℕ, _≤_, _-_, _+_, _*_}
+use Prim.Native.Nat.{_≤_, _-_}
 use lib.ListN.{length, length-set}
 use denote.Ref.{now}
 use Rattle.laws.specs.Writing.{writtenAt}

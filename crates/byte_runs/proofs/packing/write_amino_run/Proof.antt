@@ -1,7 +1,7 @@
 -- `byte_runs::packing::write_amino_run`: the whole packets, and the last one behind them. Assumes nothing.
-use mathlib.Core.Path.{_≡_, ap, _∙_}
+use mathlib.Core.Path.{ap, _∙_}
 use native.Mathlib.Omega.{arith}
-use Prim.Native.Nat.{ℕ, _≤_, _-_, _+_, _*_}
+use Prim.Native.Nat.{ℕ, _-_, _*_}
 use denote.Ref.{now}
 use Rattle.runs.proofs.Turns.{packet-is}
 use Rattle.byte_runs.proofs.Runs.{amino-count, amino-bytes}

@@ -1,8 +1,8 @@
 -- `byte_runs::packing::write_few`: the packets written so far. Assumes nothing.
 use mathlib.Core.Path.{_≡_, refl, sym, ap, _∙_}
-use mathlib.Core.List.{List, [], _∷_}
+use mathlib.Core.List.{[], _∷_}
 use native.Mathlib.Omega.{arith}
-use Prim.Native.Nat.{ℕ, _≤_, _-_, _+_, _*_}
+use Prim.Native.Nat.{ℕ, _≤_, _-_, _*_}
 use lib.ListN.{length, take, drop}
 use denote.Ref.{now}
 use Rattle.laws.specs.Writing.{writtenAt}
