@@ -160,7 +160,8 @@ module _ (R S d : List ℕ) (place at : ℕ) (e : R ≡ S) (room : place + lengt
   pub placed-room : length R ≤ length (midOf at (length d - at) d) / 4
   placed-room = omega (arith, ap length e, part-long at (4 * length S) d (omega arith))
 
-  pub placed : (last : List ℕ) → last ≡ writtenAt 0 (bytesOf R) (midOf at (length d - at) d) → putMid at (length d - at) d last ≡ writtenAt (byteOf 0 place) (bytesOf S) d
+  pub placed : (last : List ℕ) → last ≡ writtenAt 0 (bytesOf R) (midOf at (length d - at) d) → putMid at (length d - at) d last ≡ writtenAt
+      (byteOf 0 place) (bytesOf S) d
   placed last w =
       part-put at d last (bytesOf R) w placed-start
       ∙ (ap (λ (n : ℕ). writtenAt n (bytesOf R) d) q ∙ ap (λ (x : List ℕ). writtenAt (byteOf 0 place) (bytesOf x) d) e)

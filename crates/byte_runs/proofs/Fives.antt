@@ -33,8 +33,10 @@ module _ (cs : List ℕ) (at : ℕ) (more : at + 6 ≤ length cs) (valid : allBe
   byte : (k : ℕ) → getD cs k 0 < 256
   byte k = omega (arith, small k)
 
-  fours : (four % 256 ≡ getD cs at 0) × (four / 256 % 256 ≡ getD cs (at + 1) 0) × (four / 65536 % 256 ≡ getD cs (at + 2) 0) × (four / 16777216 ≡ getD cs (at + 3) 0)
-  fours = four-bytes four (getD cs at 0) (getD cs (at + 1) 0) (getD cs (at + 2) 0) (getD cs (at + 3) 0) f (byte at) (byte (at + 1)) (byte (at + 2)) (byte (at + 3))
+  fours : (four % 256 ≡ getD cs at 0) × (four / 256 % 256 ≡ getD cs (at + 1) 0) × (four / 65536 % 256 ≡ getD cs (at + 2) 0) × (four / 16777216 ≡ getD cs
+      (at + 3) 0)
+  fours = four-bytes four (getD cs at 0) (getD cs (at + 1) 0) (getD cs (at + 2) 0) (getD cs (at + 3) 0) f (byte at) (byte (at + 1)) (byte (at + 2)) (byte
+      (at + 3))
 
   twos : (two % 256 ≡ getD cs (at + 4) 0) × (two / 256 ≡ getD cs (at + 4 + 1) 0)
   twos = two-bytes two (getD cs (at + 4) 0) (getD cs (at + 4 + 1) 0) t (byte (at + 4)) (byte (at + 4 + 1))
@@ -56,5 +58,6 @@ module _ (cs : List ℕ) (at : ℕ) (more : at + 6 ≤ length cs) (valid : allBe
   six-packet =
       five-sum (drop at cs) (four % 256) (four / 256 % 256) (four / 65536 % 256) (four / 16777216) (two % 256) (two / 256)
       (inside 0 at (four % 256) (omega arith) (omega arith) (fours .0)) (inside 1 (at + 1) (four / 256 % 256) (omega arith) (omega arith) (fours .1))
-      (inside 2 (at + 2) (four / 65536 % 256) (omega arith) (omega arith) (fours .2)) (inside 3 (at + 3) (four / 16777216) (omega arith) (omega arith) (fours .3))
+      (inside 2 (at + 2) (four / 65536 % 256) (omega arith) (omega arith) (fours .2)) (inside 3 (at + 3) (four / 16777216) (omega arith) (omega arith)
+      (fours .3))
       (inside 4 (at + 4) (two % 256) (omega arith) (omega arith) (twos .0)) (inside 5 (at + 4 + 1) (two / 256) (omega arith) (omega arith) (twos .1))

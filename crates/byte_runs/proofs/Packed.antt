@@ -38,7 +38,8 @@ module _ (R d : List ℕ) (n : ℕ) (out : List ℕ) (so-far : out ≡ writtenAt
   joined : bytesOf (take k R) ++ bytesOf ps ≡ bytesOf (take (k + length ps) R)
   joined =
       sym (bytes-append (take k R) ps)
-      ∙ ap bytesOf (sym (take-add k (length ps) R ∙ ap (λ (l : List ℕ). take k R ++ l) (ap (λ (l : List ℕ). take (length ps) l) here ∙ take-append-seam ps rest)))
+      ∙ ap bytesOf (sym (take-add k (length ps) R ∙ ap (λ (l : List ℕ). take k R ++ l) (ap (λ (l : List ℕ). take
+      (length ps) l) here ∙ take-append-seam ps rest)))
 
   pub put-more : writtenAt (4 * k) (bytesOf ps) out ≡ writtenAt 0 (bytesOf (take (k + length ps) R)) d
   put-more =
@@ -63,17 +64,20 @@ put-behind xs ys d out k so-far e room =
     let n : 4 * k ≡ 0 + length (bytesOf xs) = omega (arith, length-bytes xs) in
     ap (λ (l : List ℕ). writtenAt (4 * k) (bytesOf ys) l) so-far
     ∙ (ap (λ (i : ℕ). writtenAt i (bytesOf ys) (writtenAt 0 (bytesOf xs) d)) n
-    ∙ (written-twice 0 (bytesOf xs) (bytesOf ys) d (omega (arith, length-bytes xs, length-bytes ys)) ∙ ap (λ (l : List ℕ). writtenAt 0 l d) (sym (bytes-append xs ys))))
+    ∙ (written-twice 0 (bytesOf xs) (bytesOf ys) d (omega (arith, length-bytes xs, length-bytes ys)) ∙ ap (λ (l : List ℕ). writtenAt 0 l d) (sym
+    (bytes-append xs ys))))
 
 pub part-long : (a n : ℕ) (xs : List ℕ) → a + n ≤ length xs → n ≤ length (midOf a (length xs - a) xs)
 part-long a n xs h = omega (arith, mid-len a (length xs) xs (omega arith))
 
 -- what is written at the start of a part is written at the part's place
-pub part-put : (a : ℕ) (xs ys new : List ℕ) → ys ≡ writtenAt 0 new (midOf a (length xs - a) xs) → a ≤ length xs → putMid a (length xs - a) xs ys ≡ writtenAt a new xs
+pub part-put : (a : ℕ) (xs ys new : List ℕ) → ys ≡ writtenAt 0 new (midOf a (length xs - a) xs) → a ≤ length xs → putMid a
+    (length xs - a) xs ys ≡ writtenAt a new xs
 part-put a xs ys new e h =
     let b : postOf a (length xs - a) xs ≡ [] = post-is a (length xs) xs h ∙ drop-length xs in
     let c : ys ≡ new ++ drop (a + length new) xs =
-    e ∙ (ap (λ (l : List ℕ). writtenAt 0 new l) (part-rest xs a) ∙ (written-start new (drop a xs) ∙ ap (λ (l : List ℕ). new ++ l) (drop-drop (length new) a xs))) in
+    e ∙ (ap (λ (l : List ℕ). writtenAt 0 new l) (part-rest xs a) ∙ (written-start new (drop a xs) ∙ ap (λ (l : List ℕ). new ++ l) (drop-drop
+    (length new) a xs))) in
     ap (λ (l : List ℕ). take a xs ++ (ys ++ l)) b
     ∙ (ap (λ (l : List ℕ). take a xs ++ l) (append-none ys ∙ c) ∙ sym (append-assoc (take a xs) new (drop (a + length new) xs)))
 
@@ -172,7 +176,8 @@ module _ (f : List ℕ → ℕ) (s : ℕ) where
 
     -- the first i are written; those from k on are written behind or again
     pub parts-put : (i : ℕ) (d out ps : List ℕ) → out ≡ writtenAt 0 (bytesOf (take i (partsBy f s cs n))) d → 4 * n ≤ length d
-        → ps ≡ partsBy f s (drop (s * k) cs) m → k ≤ i → i ≤ k + m → writtenAt (4 * k) (bytesOf ps) out ≡ writtenAt 0 (bytesOf (take (k + m) (partsBy f s cs n))) d
+        → ps ≡ partsBy f s (drop (s * k) cs) m → k ≤ i → i ≤ k + m → writtenAt (4 * k) (bytesOf ps) out ≡ writtenAt 0 (bytesOf (take (k + m)
+        (partsBy f s cs n))) d
     parts-put i d out ps so-far room e low high =
         let R = partsBy f s cs n in
         let l = length-parts cs n in
@@ -182,9 +187,12 @@ module _ (f : List ℕ → ℕ) (s : ℕ) where
         ∙ ap (λ (x : ℕ). writtenAt 0 (bytesOf (take (k + x) R)) d) q)
 
     -- the same where they are made of a part of the codes, and written at the start of a part of the output
-    pub parts-lent : (i : ℕ) (d out ps ys : List ℕ) (at : ℕ) → out ≡ writtenAt 0 (bytesOf (take i (partsBy f s cs n))) d → 4 * n ≤ length d → length out ≡ length d
-        → ps ≡ partsBy f s (midOf (s * k) (length cs - s * k) cs) m → k ≤ i → i ≤ k + m → at ≡ 4 * k → ys ≡ writtenAt 0 (bytesOf ps) (midOf at (length out - at) out)
+    pub parts-lent : (i : ℕ) (d out ps ys : List ℕ) (at : ℕ) → out ≡ writtenAt 0 (bytesOf (take i
+        (partsBy f s cs n))) d → 4 * n ≤ length d → length out ≡ length d
+        → ps ≡ partsBy f s (midOf (s * k) (length cs - s * k) cs) m → k ≤ i → i ≤ k + m → at ≡ 4 * k → ys ≡ writtenAt 0 (bytesOf ps) (midOf at
+        (length out - at) out)
         → putMid at (length out - at) out ys ≡ writtenAt 0 (bytesOf (take (k + m) (partsBy f s cs n))) d
     parts-lent i d out ps ys at so-far room same e low high q w =
         part-put at out ys (bytesOf ps) w (omega arith)
-        ∙ (ap (λ (x : ℕ). writtenAt x (bytesOf ps) out) q ∙ parts-put i d out ps so-far room (e ∙ ap (λ (l : List ℕ). partsBy f s l m) (part-rest cs (s * k))) low high)
+        ∙ (ap (λ (x : ℕ). writtenAt x (bytesOf ps) out) q ∙ parts-put i d out ps so-far room (e ∙ ap (λ (l : List ℕ). partsBy f s l m) (part-rest cs
+        (s * k))) low high)

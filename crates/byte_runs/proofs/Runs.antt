@@ -63,7 +63,8 @@ module _ (cs : List ℕ) (w : ℕ) (e : w ≡ sixes (length cs) - 1) where
 
   pub amino-count : w + 1 ≡ length (run 3 cs)
   amino-count =
-      sym (ap length amino-run ∙ (length-append (fives cs w) (packet 3 (drop (6 * w) cs) ∷ []) ∙ ap (λ (n : ℕ). n + 1) (length-parts (λ next. fiveBitPart next) 6 cs w)))
+      sym (ap length amino-run ∙ (length-append (fives cs w) (packet 3 (drop (6 * w) cs) ∷ []) ∙ ap (λ (n : ℕ). n + 1) (length-parts
+      (λ next. fiveBitPart next) 6 cs w)))
 
   pub amino-bytes : (d out : List ℕ) (p : ℕ) → out ≡ writtenAt 0 (bytesOf (fives cs w)) d → p ≡ packet 3 (drop (6 * w) cs) → length (run 3 cs) ≤ length d / 4
       → writtenAt (4 * w) (bytesOf (p ∷ [])) out ≡ writtenAt 0 (bytesOf (run 3 cs)) d

@@ -84,7 +84,8 @@ shifted-moved n h =
 
 four-drop : (cs : List ℕ) (at i j : ℕ) → j ≡ at + i → fourFrom cs j ≡ fourFrom (drop at cs) i
 four-drop cs at i j e =
-    let f : (k : ℕ) → getD cs (at + i + k) 0 ≡ getD (drop at cs) (i + k) 0 = λ k. ap (λ (n : ℕ). getD cs n 0) (let z : at + i + k ≡ at + (i + k) = omega arith in z) ∙ sym (getD-drop at cs (i + k) 0) in
+    let f : (k : ℕ) → getD cs (at + i + k) 0 ≡ getD (drop at cs) (i + k) 0 = λ k. ap (λ (n : ℕ). getD cs n 0) (let z : at + i + k ≡ at +
+    (i + k) = omega arith in z) ∙ sym (getD-drop at cs (i + k) 0) in
     rw (e, sym (getD-drop at cs i 0), f 1, f 2, f 3)
 
 module _ (cs : List ℕ) (at : ℕ) (e : plain 15 (drop at cs) ≡ true) where
@@ -98,7 +99,8 @@ module _ (cs : List ℕ) (at : ℕ) (e : plain 15 (drop at cs) ≡ true) where
       let c₁ = code (i + 1) (omega arith) in
       let c₂ = code (i + 2) (omega arith) in
       let c₃ = code (i + 3) (omega arith) in
-      let b = four-bytes n (getD ds i 0) (getD ds (i + 1) 0) (getD ds (i + 2) 0) (getD ds (i + 3) 0) (f ∙ four-drop cs at i j q) (omega arith) (omega arith) (omega arith)
+      let b = four-bytes n (getD ds i 0) (getD ds (i + 1) 0) (getD ds (i + 2) 0) (getD ds (i + 3) 0) (f ∙ four-drop cs at i j q) (omega arith)
+      (omega arith) (omega arith)
       (omega arith) in
       (omega (arith, b .0), omega (arith, b .1), omega (arith, b .2), omega (arith, b .3))
 
@@ -160,7 +162,8 @@ plain-inside n i m cs e h =
     (below-all 4 (take m (drop i cs))
     (λ k g.
     let b : i + k < n = omega arith in
-    rw (getD-take m (drop i cs) k 0 (omega arith), getD-drop i cs k 0) (rw (getD-take n cs (i + k) 0 b) at (below-at 4 (i + k) (take n cs) (omega arith) (plain-below n cs e)))))
+    rw (getD-take m (drop i cs) k 0 (omega arith), getD-drop i cs k 0) (rw (getD-take n cs (i + k) 0 b) at (below-at 4 (i + k) (take n cs) (omega arith)
+    (plain-below n cs e)))))
 
 -- sixteen parts more
 pub parts-plain : (cs : List ℕ) (n : ℕ) → plainParts cs n ≡ true → plain 240 (drop (15 * n) cs) ≡ true → plainParts cs (n + 16) ≡ true
@@ -172,10 +175,12 @@ parts-plain cs n so-far e =
     (λ f.
     let g : n ≤ k = ltb-false k n f in
     let j : 15 * n + 15 * (k - n) ≡ 15 * k = omega arith in
-    ap (λ (l : List ℕ). plain 15 l) (ap (λ (i : ℕ). drop i cs) (sym j) ∙ sym (drop-drop (15 * (k - n)) (15 * n) cs)) ∙ plain-inside 240 (15 * (k - n)) 15 (drop (15 * n) cs) e (omega arith)))
+    ap (λ (l : List ℕ). plain 15 l) (ap (λ (i : ℕ). drop i cs) (sym j) ∙ sym (drop-drop (15 * (k - n)) (15 * n) cs)) ∙ plain-inside 240 (15 * (k - n)) 15
+    (drop (15 * n) cs) e (omega arith)))
 
 -- what the test of a block tells
-pub block-told : (cs : List ℕ) (n : ℕ) (r : Bool) → r ≡ (ltb 240 (length (midOf (15 * n) (length cs - 15 * n) cs)) && plain 240 (midOf (15 * n) (length cs - 15 * n) cs))
+pub block-told : (cs : List ℕ) (n : ℕ) (r : Bool) → r ≡ (ltb 240 (length (midOf (15 * n) (length cs - 15 * n) cs)) && plain 240 (midOf (15 * n)
+    (length cs - 15 * n) cs))
     → r ≡ true → (240 < length cs - 15 * n) × (plain 240 (drop (15 * n) cs) ≡ true)
 block-told cs n r e t =
     let ds = drop (15 * n) cs in

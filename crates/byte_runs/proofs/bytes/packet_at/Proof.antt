@@ -14,7 +14,8 @@ four-at-requires : tie.Need-four-at-requires
 four-at-requires c κs = search needs
 
 returns : tie.Need-returns
-returns c = (c .four-at) .ensures ∙ packet-sum (now ((c .before .before .before .args) .bytes)) ((c .before .before .before .args) .place .0) ((c .before .byte-of) .result .0) (c .before .before .before .pre) (omega arith) ((c .before .byte-of) .ensures)
+returns c = (c .four-at) .ensures ∙ packet-sum (now ((c .before .before .before .args) .bytes)) ((c .before .before .before .args) .place .0)
+    ((c .before .byte-of) .result .0) (c .before .before .before .pre) (omega arith) ((c .before .byte-of) .ensures)
 
 pub packet-at-spec : {M : Type 1} → statement M
 packet-at-spec = tie.close (tie.spec byte-of-requires four-at-requires returns)

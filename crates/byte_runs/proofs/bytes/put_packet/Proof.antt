@@ -18,7 +18,10 @@ same-length : tie.Need-same-length
 same-length c = search needs
 
 returns : tie.Need-returns
-returns c = (c .before .before .store) .ensures ∙ packet-put ((c .before .before .before .before .before .before .args) .packet) ((c .before .before .before .before .before .before .args) .place .0) ((c .before .before .before .before .byte-of) .result .0) (length (now ((c .before .before .before .before .before .before .args) .out))) (now ((c .before .before .before .before .before .before .args) .out)) (c .before .before .before .before .before .before .pre) (omega arith) ((c .before .before .before .before .byte-of) .ensures)
+returns c = (c .before .before .store) .ensures ∙ packet-put ((c .before .before .before .before .before .before .args) .packet)
+    ((c .before .before .before .before .before .before .args) .place .0) ((c .before .before .before .before .byte-of) .result .0) (length (now
+    ((c .before .before .before .before .before .before .args) .out))) (now ((c .before .before .before .before .before .before .args) .out))
+    (c .before .before .before .before .before .before .pre) (omega arith) ((c .before .before .before .before .byte-of) .ensures)
 
 pub put-packet-spec : {M : Type 1} → statement M
 put-packet-spec = tie.close (tie.spec byte-of-requires store-requires same-length returns)

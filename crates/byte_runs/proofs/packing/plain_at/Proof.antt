@@ -28,7 +28,10 @@ four-at-requires-4 : tie.Need-four-at-requires-4
 four-at-requires-4 c κs = search needs
 
 returns : tie.Need-returns
-returns c = plain-told (now ((c .before .before .before .before .before .args) .codes)) ((c .before .before .before .before .before .args) .at) ((c .before .before .before .four-at) .result) ((c .before .before .four-at2) .result) ((c .before .four-at3) .result) ((c .four-at4) .result) (λ k. omega (arith, (c .before .before .before .before .shared-slice-known) .given k)) (c .before .before .before .before .before .pre) ((c .before .before .before .four-at) .ensures) ((c .before .before .four-at2) .ensures) ((c .before .four-at3) .ensures) ((c .four-at4) .ensures)
+returns c = plain-told (now ((c .before .before .before .before .before .args) .codes)) ((c .before .before .before .before .before .args) .at)
+    ((c .before .before .before .four-at) .result) ((c .before .before .four-at2) .result) ((c .before .four-at3) .result) ((c .four-at4) .result)
+    (λ k. omega (arith, (c .before .before .before .before .shared-slice-known) .given k)) (c .before .before .before .before .before .pre)
+    ((c .before .before .before .four-at) .ensures) ((c .before .before .four-at2) .ensures) ((c .before .four-at3) .ensures) ((c .four-at4) .ensures)
 
 pub plain-at-spec : {M : Type 1} → statement M
 plain-at-spec =

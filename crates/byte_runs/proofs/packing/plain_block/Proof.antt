@@ -34,10 +34,16 @@ loop-less : tie.Need-loop-less Inv-loop μ-loop
 loop-less c = search needs
 
 loop-again : tie.Need-loop-again Inv-loop μ-loop
-loop-again c = (omega arith, (c .before .before .loop) .inv .1, plain-step ((c .before .before .loop) .i) ((c .before .before .loop) .any) _ (now ((c .before .before .before .before .args) .codes)) ((c .before .before .loop) .inv .2) (omega arith) refl)
+loop-again c = (
+  omega arith,
+  (c .before .before .loop) .inv .1,
+  plain-step ((c .before .before .loop) .i) ((c .before .before .loop) .any) _ (now
+      ((c .before .before .before .before .args) .codes)) ((c .before .before .loop) .inv .2) (omega arith) refl,
+)
 
 returns-2 : tie.Need-returns-2 Inv-loop μ-loop
-returns-2 c = let n : (c .before .loop) .i ≡ 240 = omega arith in rw (lt-ltb 240 (length (now ((c .before .before .before .args) .codes))) ((c .before .loop) .inv .1)) (rw n at ((c .before .loop) .inv .2))
+returns-2 c = let n : (c .before .loop) .i ≡ 240 = omega arith in rw (lt-ltb 240 (length (now ((c .before .before .before .args) .codes)))
+    ((c .before .loop) .inv .1)) (rw n at ((c .before .loop) .inv .2))
 
 pub plain-block-spec : {M : Type 1} → statement M
 plain-block-spec =

@@ -41,14 +41,22 @@ loop-again c = let R = now ((c .before .before .before .before .before .before .
     let l = (c .before .before .before .before .before .before .loop) in (
       omega arith,
       (c .before .out) .given ∙ l .inv .1,
-      (c .before .before .put-packet) .ensures ∙ put-more R (now ((c .before .before .before .before .before .before .before .before .args) .out)) (l .j) (l .out) (l .inv .2) (omega (arith, (c .before .before .before .before .before .before .before .before .pre) .0)) (omega (arith, (c .before .before .before .before .before .before .before .before .pre) .0)) (l .j) _ (drop (l .j + 1) R) (drop-step R (l .j) 0 (omega (arith, (c .before .before .before .before .before .before .before .before .pre) .0))) (omega arith) (omega arith),
+      (c .before .before .put-packet) .ensures ∙ put-more R (now ((c .before .before .before .before .before .before .before .before .args) .out)) (l .j)
+          (l .out) (l .inv .2) (omega (arith, (c .before .before .before .before .before .before .before .before .pre) .0)) (omega (
+            arith,
+            (c .before .before .before .before .before .before .before .before .pre) .0,
+          )) (l .j) _ (drop (l .j + 1) R) (drop-step R (l .j) 0 (omega (
+            arith,
+            (c .before .before .before .before .before .before .before .before .pre) .0,
+          ))) (omega arith) (omega arith),
     )
 
 same-length : tie.Need-same-length Inv-loop μ-loop
 same-length c = (c .before .loop) .inv .1
 
 returns : tie.Need-returns Inv-loop μ-loop
-returns c = put-all (now ((c .before .before .before .args) .packets)) (now ((c .before .before .before .args) .out)) ((c .before .loop) .out) ((c .before .loop) .j) (omega (arith, (c .before .before .before .pre) .0)) ((c .before .loop) .inv .2)
+returns c = put-all (now ((c .before .before .before .args) .packets)) (now ((c .before .before .before .args) .out)) ((c .before .loop) .out)
+    ((c .before .loop) .j) (omega (arith, (c .before .before .before .pre) .0)) ((c .before .loop) .inv .2)
 
 pub put-sixteen-spec : {M : Type 1} → statement M
 put-sixteen-spec =

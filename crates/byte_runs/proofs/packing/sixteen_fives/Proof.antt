@@ -40,7 +40,14 @@ loop-less : tie.Need-loop-less Inv-loop μ-loop
 loop-less c = search needs
 
 loop-again : tie.Need-loop-again Inv-loop μ-loop
-loop-again c = (omega arith, (c .before .before .loop) .inv .1, simp length-set ((c .before .before .loop) .inv .2), parts-more (λ next. fiveBitPart next) 6 (now ((c .before .before .before .before .args) .codes)) ((c .before .before .loop) .i) ((c .five-packet) .result) _ ((c .before .before .loop) .packets) ((c .before .before .loop) .inv .3) (omega (arith, (c .before .before .loop) .inv .1)) ((c .five-packet) .ensures))
+loop-again c = (
+  omega arith,
+  (c .before .before .loop) .inv .1,
+  simp length-set ((c .before .before .loop) .inv .2),
+  parts-more
+      (λ next. fiveBitPart next) 6 (now ((c .before .before .before .before .args) .codes)) ((c .before .before .loop) .i) ((c .five-packet) .result) _
+      ((c .before .before .loop) .packets) ((c .before .before .loop) .inv .3) (omega (arith, (c .before .before .loop) .inv .1)) ((c .five-packet) .ensures),
+)
 
 returns : tie.Need-returns Inv-loop μ-loop
 returns c =

@@ -28,8 +28,11 @@ mul-two-packet c = search needs
 
 two-packet-requires : tie.Need-two-packet-requires Inv-loop μ-loop
 two-packet-requires c κs =
-    let cs = now ((c .before .before .before .args) .codes) in
-    (omega (arith, plain-long 240 cs (c .before .before .before .pre)), plain-inside 240 (15 * (c .before .loop) .i) 15 cs (c .before .before .before .pre) (omega arith))
+    let cs = now ((c .before .before .before .args) .codes) in (
+      omega (arith, plain-long 240 cs (c .before .before .before .pre)),
+      plain-inside 240 (15 * (c .before .loop) .i) 15 cs
+          (c .before .before .before .pre) (omega arith),
+    )
 
 mul-packets : tie.Need-mul-packets Inv-loop μ-loop
 mul-packets c = search needs
@@ -49,7 +52,8 @@ loop-again c =
       omega arith,
       l .inv .1,
       simp length-set (l .inv .2),
-      parts-more (λ next. twoBitPart next) 15 (now ((c .before .before .before .before .args) .codes)) (l .i) ((c .two-packet) .result) _ (l .packets) (l .inv .3) (omega (arith, l .inv .1)) ((c .two-packet) .ensures),
+      parts-more (λ next. twoBitPart next) 15 (now ((c .before .before .before .before .args) .codes)) (l .i) ((c .two-packet) .result) _ (l .packets)
+          (l .inv .3) (omega (arith, l .inv .1)) ((c .two-packet) .ensures),
     )
 
 returns : tie.Need-returns Inv-loop μ-loop

@@ -57,7 +57,16 @@ add-result-3 : tie.Need-add-result-3
 add-result-3 c = search needs
 
 returns : tie.Need-returns
-returns c = two-sum (now ((c .before .before .before .before .before .before .before .before .before .args) .codes)) ((c .before .before .before .before .before .before .before .before .before .args) .at) ((c .before .before .before .before .before .before .before .before .before .pre) .1) ((c .before .before .before .before .before .before .four-moved) .result) ((c .before .before .before .before .four-moved2) .result) ((c .before .before .four-moved3) .result) ((c .four-moved4) .result) ((c .before .before .before .before .before .before .before .four-at) .result) ((c .before .before .before .before .before .four-at2) .result) ((c .before .before .before .four-at3) .result) ((c .before .four-at4) .result) ((c .before .before .before .before .before .before .four-moved) .ensures .0) ((c .before .before .before .before .before .before .before .four-at) .ensures) ((c .before .before .before .before .four-moved2) .ensures .0) ((c .before .before .before .before .before .four-at2) .ensures) ((c .before .before .four-moved3) .ensures .0) ((c .before .before .before .four-at3) .ensures) ((c .four-moved4) .ensures .0) ((c .before .four-at4) .ensures)
+returns c = two-sum (now ((c .before .before .before .before .before .before .before .before .before .args) .codes))
+    ((c .before .before .before .before .before .before .before .before .before .args) .at)
+    ((c .before .before .before .before .before .before .before .before .before .pre) .1)
+    ((c .before .before .before .before .before .before .four-moved) .result) ((c .before .before .before .before .four-moved2) .result)
+    ((c .before .before .four-moved3) .result) ((c .four-moved4) .result) ((c .before .before .before .before .before .before .before .four-at) .result)
+    ((c .before .before .before .before .before .four-at2) .result) ((c .before .before .before .four-at3) .result) ((c .before .four-at4) .result)
+    ((c .before .before .before .before .before .before .four-moved) .ensures .0)
+    ((c .before .before .before .before .before .before .before .four-at) .ensures) ((c .before .before .before .before .four-moved2) .ensures .0)
+    ((c .before .before .before .before .before .four-at2) .ensures) ((c .before .before .four-moved3) .ensures .0)
+    ((c .before .before .before .four-at3) .ensures) ((c .four-moved4) .ensures .0) ((c .before .four-at4) .ensures)
 
 pub two-single-spec : {M : Type 1} → statement M
 two-single-spec =

@@ -16,7 +16,16 @@ sub-whole : tie.Need-sub-whole
 sub-whole c = search needs
 
 write-fives-requires : tie.Need-write-fives-requires
-write-fives-requires c κs = (omega (arith, (c .before .sixes-of) .ensures), (c .before .before .before .before .pre) .0, omega (arith, (c .before .before .before .before .pre) .1, amino-count (now ((c .before .before .before .before .args) .codes)) ((c .before .sixes-of) .result - 1) (ap (λ (n : ℕ). n - 1) ((c .before .sixes-of) .ensures))))
+write-fives-requires c κs = (
+  omega (arith, (c .before .sixes-of) .ensures),
+  (c .before .before .before .before .pre) .0,
+  omega (
+    arith,
+    (c .before .before .before .before .pre) .1,
+    amino-count (now ((c .before .before .before .before .args) .codes)) ((c .before .sixes-of) .result - 1)
+        (ap (λ (n : ℕ). n - 1) ((c .before .sixes-of) .ensures)),
+  ),
+)
 
 mul-encode : tie.Need-mul-encode
 mul-encode c = search needs
@@ -40,7 +49,15 @@ encode-requires : tie.Need-encode-requires
 encode-requires c κs = search needs
 
 put-packet-requires : tie.Need-put-packet-requires
-put-packet-requires c κs = omega (arith, (c .before .before .before .before .before .before .before .before .before .before .pre) .1, (c .before .before .before .before .out) .given, amino-count (now ((c .before .before .before .before .before .before .before .before .before .before .args) .codes)) ((c .before .before .before .before .before .before .before .sixes-of) .result - 1) (ap (λ (n : ℕ). n - 1) ((c .before .before .before .before .before .before .before .sixes-of) .ensures)))
+put-packet-requires c κs = omega (
+  arith,
+  (c .before .before .before .before .before .before .before .before .before .before .pre) .1,
+  (c .before .before .before .before .out) .given,
+  amino-count (now
+      ((c .before .before .before .before .before .before .before .before .before .before .args) .codes))
+      ((c .before .before .before .before .before .before .before .sixes-of) .result - 1) (ap (λ (n : ℕ). n - 1)
+      ((c .before .before .before .before .before .before .before .sixes-of) .ensures)),
+)
 
 add-result : tie.Need-add-result
 add-result c = search needs
@@ -50,9 +67,21 @@ same-length c = search needs
 
 returns : tie.Need-returns
 returns c = (
-  amino-count (now ((c .before .before .before .before .before .before .before .before .before .before .before .before .before .args) .codes)) ((c .before .before .before .before .before .before .before .before .before .before .sixes-of) .result - 1) (ap (λ (n : ℕ). n - 1) ((c .before .before .before .before .before .before .before .before .before .before .sixes-of) .ensures)),
-  (c .before .before .put-packet) .ensures ∙ amino-bytes (now ((c .before .before .before .before .before .before .before .before .before .before .before .before .before .args) .codes)) ((c .before .before .before .before .before .before .before .before .before .before .sixes-of) .result - 1) (ap (λ (n : ℕ). n - 1) ((c .before .before .before .before .before .before .before .before .before .before .sixes-of) .ensures)) (now ((c .before .before .before .before .before .before .before .before .before .before .before .before .before .args) .out)) _ ((c .before .before .before .before .encode) .result .packet) ((c .before .before .before .before .before .before .before .before .write-fives) .ensures)
-      (packet-is 3 (now ((c .before .before .before .before .before .before .before .before .before .before .before .before .before .args) .codes)) (6 * ((c .before .before .before .before .before .before .before .before .before .before .sixes-of) .result - 1)) ((c .before .before .before .before .encode) .result .packet) ((c .before .before .before .before .before .before .before .before .before .before .before .before .before .pre) .0) ((c .before .before .before .before .encode) .ensures .0)) ((c .before .before .before .before .before .before .before .before .before .before .before .before .before .pre) .1),
+  amino-count (now ((c .before .before .before .before .before .before .before .before .before .before .before .before .before .args) .codes))
+      ((c .before .before .before .before .before .before .before .before .before .before .sixes-of) .result - 1) (ap (λ (n : ℕ). n - 1)
+      ((c .before .before .before .before .before .before .before .before .before .before .sixes-of) .ensures)),
+  (c .before .before .put-packet) .ensures ∙ amino-bytes (now
+      ((c .before .before .before .before .before .before .before .before .before .before .before .before .before .args) .codes))
+      ((c .before .before .before .before .before .before .before .before .before .before .sixes-of) .result - 1) (ap (λ (n : ℕ). n - 1)
+      ((c .before .before .before .before .before .before .before .before .before .before .sixes-of) .ensures)) (now
+      ((c .before .before .before .before .before .before .before .before .before .before .before .before .before .args) .out)) _
+      ((c .before .before .before .before .encode) .result .packet) ((c .before .before .before .before .before .before .before .before .write-fives) .ensures)
+      (packet-is 3 (now ((c .before .before .before .before .before .before .before .before .before .before .before .before .before .args) .codes)) (6 *
+      ((c .before .before .before .before .before .before .before .before .before .before .sixes-of) .result - 1))
+      ((c .before .before .before .before .encode) .result .packet)
+      ((c .before .before .before .before .before .before .before .before .before .before .before .before .before .pre) .0)
+      ((c .before .before .before .before .encode) .ensures .0))
+      ((c .before .before .before .before .before .before .before .before .before .before .before .before .before .pre) .1),
 )
 
 pub write-amino-run-spec : {M : Type 1} → statement M

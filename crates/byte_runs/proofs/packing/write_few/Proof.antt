@@ -21,7 +21,12 @@ abbrev μ-loop : tie.MeasureT-loop
 μ-loop codes count out₀ i₀ out i = count - i
 
 loop-holds : tie.Need-loop-holds Inv-loop μ-loop
-loop-holds c = (omega arith, refl, put-none (fives (now ((c .before .before .args) .codes)) ((c .before .before .args) .count)) (now ((c .before .before .args) .out)))
+loop-holds c = (
+  omega arith,
+  refl,
+  put-none (fives (now ((c .before .before .args) .codes)) ((c .before .before .args) .count)) (now
+      ((c .before .before .args) .out)),
+)
 
 mul-five-packet : tie.Need-mul-five-packet Inv-loop μ-loop
 mul-five-packet c = search needs
@@ -44,15 +49,23 @@ loop-again c = let a = (c .before .before .before .before .before .before .befor
     let cs = now (a .codes) in (
       omega arith,
       (c .before .out) .given ∙ l .inv .1,
-      (c .before .before .put-packet) .ensures ∙ parts-put (λ next. fiveBitPart next) 6 cs (a .count) (l .i) 1 (omega arith) (l .i) (now (a .out)) (l .out) _ (l .inv .2) ((c .before .before .before .before .before .before .before .before .before .pre) .2)
-          (ap (λ (p : ℕ). p ∷ []) ((c .before .before .before .before .five-packet) .ensures) ∙ sym (parts-one (λ next. fiveBitPart next) 6 (drop (6 * l .i) cs))) (omega arith) (omega arith),
+      (c .before .before .put-packet) .ensures ∙ parts-put (λ next. fiveBitPart next) 6 cs (a .count) (l .i) 1 (omega arith) (l .i) (now (a .out))
+          (l .out) _ (l .inv .2) ((c .before .before .before .before .before .before .before .before .before .pre) .2)
+          (ap (λ (p : ℕ). p ∷ []) ((c .before .before .before .before .five-packet) .ensures) ∙ sym (parts-one (λ next. fiveBitPart next) 6 (drop
+          (6 * l .i) cs))) (omega arith) (omega arith),
     )
 
 same-length : tie.Need-same-length Inv-loop μ-loop
 same-length c = (c .before .loop) .inv .1
 
 returns : tie.Need-returns Inv-loop μ-loop
-returns c = put-all (fives (now ((c .before .before .before .before .args) .codes)) ((c .before .before .before .before .args) .count)) (now ((c .before .before .before .before .args) .out)) ((c .before .loop) .out) ((c .before .loop) .i) (omega (arith, length-parts (λ next. fiveBitPart next) 6 (now ((c .before .before .before .before .args) .codes)) ((c .before .before .before .before .args) .count))) ((c .before .loop) .inv .2)
+returns c = put-all (fives (now ((c .before .before .before .before .args) .codes)) ((c .before .before .before .before .args) .count)) (now
+    ((c .before .before .before .before .args) .out)) ((c .before .loop) .out) ((c .before .loop) .i) (omega (
+      arith,
+      length-parts
+          (λ next. fiveBitPart next) 6 (now ((c .before .before .before .before .args) .codes)) ((c .before .before .before .before .args) .count),
+    ))
+    ((c .before .loop) .inv .2)
 
 pub write-few-spec : {M : Type 1} → statement M
 write-few-spec =

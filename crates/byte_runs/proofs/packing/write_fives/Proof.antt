@@ -30,7 +30,13 @@ returns : tie.Need-returns Inv-loop μ-loop
 returns c = search needs
 
 loop-holds : tie.Need-loop-holds Inv-loop μ-loop
-loop-holds c = (omega arith, (c .if1) .left, refl, put-none (fives (now ((c .before .before .before .args) .codes)) ((c .before .before .before .args) .count)) (now ((c .before .before .before .args) .out)))
+loop-holds c = (
+  omega arith,
+  (c .if1) .left,
+  refl,
+  put-none (fives (now ((c .before .before .before .args) .codes))
+      ((c .before .before .before .args) .count)) (now ((c .before .before .before .args) .out)),
+)
 
 block-start-requires : tie.Need-block-start-requires Inv-loop μ-loop
 block-start-requires c κs = search needs
@@ -51,7 +57,12 @@ sixteen-fives-requires : tie.Need-sixteen-fives-requires Inv-loop μ-loop
 sixteen-fives-requires c κs =
     let k = (c .before .block-start) .result in
     let cs = now ((c .before .before .before .before .before .before .before .args) .codes) in (
-      part-long (6 * k) 96 cs (omega (arith, (c .before .before .before .before .before .before .before .pre) .0, (c .before .block-start) .ensures, (c .before .before .before .loop) .inv .1)),
+      part-long (6 * k) 96 cs (omega (
+        arith,
+        (c .before .before .before .before .before .before .before .pre) .0,
+        (c .before .block-start) .ensures,
+        (c .before .before .before .loop) .inv .1,
+      )),
       below-take 28 (length cs - 6 * k) (drop (6 * k) cs) (below-drop 28 (6 * k) cs ((c .before .before .before .before .before .before .before .pre) .1)),
     )
 
@@ -62,7 +73,14 @@ sub-put-sixteen : tie.Need-sub-put-sixteen Inv-loop μ-loop
 sub-put-sixteen c = search needs
 
 part-put-sixteen-start : tie.Need-part-put-sixteen-start Inv-loop μ-loop
-part-put-sixteen-start c = omega (arith, (c .before .before .before .before .before .before .before .before .before .before .pre) .2, (c .before .before .before .before .block-start) .ensures, (c .before .byte-of) .ensures, (c .before .before .before .before .before .before .loop) .inv .1, (c .before .before .before .before .before .before .loop) .inv .2)
+part-put-sixteen-start c = omega (
+  arith,
+  (c .before .before .before .before .before .before .before .before .before .before .pre) .2,
+  (c .before .before .before .before .block-start) .ensures,
+  (c .before .byte-of) .ensures,
+  (c .before .before .before .before .before .before .loop) .inv .1,
+  (c .before .before .before .before .before .before .loop) .inv .2,
+)
 
 part-put-sixteen-end : tie.Need-part-put-sixteen-end Inv-loop μ-loop
 part-put-sixteen-end c = search needs
@@ -72,14 +90,26 @@ put-sixteen-requires c κs =
     let b = (c .before .before .before .before .before .block-start) .ensures in
     let s = (c .before .before .byte-of) in (
       ap length ((c .before .before .before .sixteen-fives) .ensures) ∙ length-parts (λ next. fiveBitPart next) 6 _ 16,
-      part-long (s .result .0) 64 ((c .before .before .before .before .before .before .before .loop) .out) (omega (arith, (c .before .before .before .before .before .before .before .before .before .before .before .pre) .2, b, s .ensures, (c .before .before .before .before .before .before .before .loop) .inv .1, (c .before .before .before .before .before .before .before .loop) .inv .2)),
+      part-long (s .result .0) 64 ((c .before .before .before .before .before .before .before .loop) .out) (omega (
+        arith,
+        (c .before .before .before .before .before .before .before .before .before .before .before .pre) .2,
+        b,
+        s .ensures,
+        (c .before .before .before .before .before .before .before .loop) .inv .1,
+        (c .before .before .before .before .before .before .before .loop) .inv .2,
+      )),
     )
 
 add-i : tie.Need-add-i Inv-loop μ-loop
 add-i c = search needs
 
 loop-less : tie.Need-loop-less Inv-loop μ-loop
-loop-less c = block-less ((c .before .before .before .before .before .before .before .before .before .before .loop) .i) ((c .before .before .before .before .before .before .before .before .block-start) .result) ((c .before .before .before .before .before .before .before .before .before .before .before .before .before .before .args) .count) ((c .before .before .before .before .before .before .before .before .block-start) .ensures) ((c .before .before .before .before .before .before .before .before .before .loop-test) .taken) ((c .before .before .before .before .before .before .before .before .before .before .loop) .inv .1)
+loop-less c = block-less ((c .before .before .before .before .before .before .before .before .before .before .loop) .i)
+    ((c .before .before .before .before .before .before .before .before .block-start) .result)
+    ((c .before .before .before .before .before .before .before .before .before .before .before .before .before .before .args) .count)
+    ((c .before .before .before .before .before .before .before .before .block-start) .ensures)
+    ((c .before .before .before .before .before .before .before .before .before .loop-test) .taken)
+    ((c .before .before .before .before .before .before .before .before .before .before .loop) .inv .1)
 
 loop-again : tie.Need-loop-again Inv-loop μ-loop
 loop-again c =
@@ -87,11 +117,28 @@ loop-again c =
     let l = (c .before .before .before .before .before .before .before .before .before .before .loop) in
     let k = (c .before .before .before .before .before .before .before .before .block-start) .result in
     let b = (c .before .before .before .before .before .before .before .before .block-start) .ensures in
-    let q : (c .before .before .before .before .before .byte-of) .result .0 ≡ 4 * k = omega (arith, (c .before .before .before .before .before .byte-of) .ensures, b, (c .before .before .before .before .before .before .before .before .before .before .before .before .before .before .pre) .2, l .inv .1) in
+    let q : (c .before .before .before .before .before .byte-of) .result .0 ≡ 4 * k = omega (
+      arith,
+      (c .before .before .before .before .before .byte-of) .ensures,
+      b,
+      (c .before .before .before .before .before .before .before .before .before .before .before .before .before .before .pre) .2,
+      l .inv .1,
+    ) in
     let e = parts-lent (λ next. fiveBitPart next) 6 (now (a .codes)) (a .count) k 16 (omega (arith, b)) (l .i) (now (a .out)) (l .out)
-    ((c .before .before .before .before .before .before .sixteen-fives) .result) ((c .before .before .put-sixteen) .last .1 .0) ((c .before .before .before .before .before .byte-of) .result .0) (l .inv .3) ((c .before .before .before .before .before .before .before .before .before .before .before .before .before .before .pre) .2) (l .inv .2) ((c .before .before .before .before .before .before .sixteen-fives) .ensures)
-    (omega (arith, b)) (omega (arith, b)) q ((c .before .before .put-sixteen) .ensures) in
-    (omega (arith, b), l .inv .1, put-length (fives (now (a .codes)) (a .count)) (now (a .out)) _ (k + 16) e (omega (arith, b, (c .before .before .before .before .before .before .before .before .before .before .before .before .before .before .pre) .2)), e)
+    ((c .before .before .before .before .before .before .sixteen-fives) .result) ((c .before .before .put-sixteen) .last .1 .0)
+    ((c .before .before .before .before .before .byte-of) .result .0) (l .inv .3)
+    ((c .before .before .before .before .before .before .before .before .before .before .before .before .before .before .pre) .2) (l .inv .2)
+    ((c .before .before .before .before .before .before .sixteen-fives) .ensures)
+    (omega (arith, b)) (omega (arith, b)) q ((c .before .before .put-sixteen) .ensures) in (
+      omega (arith, b),
+      l .inv .1,
+      put-length (fives (now (a .codes)) (a .count)) (now (a .out)) _ (k + 16) e (omega (
+        arith,
+        b,
+        (c .before .before .before .before .before .before .before .before .before .before .before .before .before .before .pre) .2,
+      )),
+      e,
+    )
 
 same-length-2 : tie.Need-same-length-2 Inv-loop μ-loop
 same-length-2 c = (c .before .loop) .inv .2
@@ -99,8 +146,10 @@ same-length-2 c = (c .before .loop) .inv .2
 returns-2 : tie.Need-returns-2 Inv-loop μ-loop
 returns-2 c =
     let R = fives (now ((c .before .before .before .before .before .args) .codes)) ((c .before .before .before .before .before .args) .count) in
-    let n = length-parts (λ next. fiveBitPart next) 6 (now ((c .before .before .before .before .before .args) .codes)) ((c .before .before .before .before .before .args) .count) in
-    put-all R (now ((c .before .before .before .before .before .args) .out)) ((c .before .loop) .out) ((c .before .loop) .i) (omega (arith, n)) ((c .before .loop) .inv .3)
+    let n = length-parts (λ next. fiveBitPart next) 6 (now ((c .before .before .before .before .before .args) .codes))
+    ((c .before .before .before .before .before .args) .count) in
+    put-all R (now ((c .before .before .before .before .before .args) .out)) ((c .before .loop) .out) ((c .before .loop) .i) (omega (arith, n))
+    ((c .before .loop) .inv .3)
 
 pub write-fives-spec : {M : Type 1} → statement M
 write-fives-spec =

@@ -40,13 +40,37 @@ sub-write-twos-2 : tie.Need-sub-write-twos-2 Inv-loop μ-loop
 sub-write-twos-2 c = search needs
 
 part-write-twos-start-2 : tie.Need-part-write-twos-start-2 Inv-loop μ-loop
-part-write-twos-start-2 c = omega (arith, (c .before .byte-of) .ensures, begun-place (now ((c .before .before .before .before .before .before .before .args) .codes)) (now ((c .before .before .before .before .before .before .before .args) .out)) ((c .before .before .before .before .loop) .count) ((c .before .before .before .before .loop) .at) ((c .before .before .before .before .loop) .out) ((c .before .before .before .before .loop) .inv .0) ((c .before .before .before .before .before .before .before .pre) .1))
+part-write-twos-start-2 c = omega (
+  arith,
+  (c .before .byte-of) .ensures,
+  begun-place (now
+      ((c .before .before .before .before .before .before .before .args) .codes)) (now
+      ((c .before .before .before .before .before .before .before .args) .out)) ((c .before .before .before .before .loop) .count)
+      ((c .before .before .before .before .loop) .at) ((c .before .before .before .before .loop) .out) ((c .before .before .before .before .loop) .inv .0)
+      ((c .before .before .before .before .before .before .before .pre) .1),
+)
 
 part-write-twos-end-2 : tie.Need-part-write-twos-end-2 Inv-loop μ-loop
 part-write-twos-end-2 c = search needs
 
 write-twos-requires : tie.Need-write-twos-requires Inv-loop μ-loop
-write-twos-requires c κs = (part-long ((c .before .before .before .before .before .loop) .at) 1 (now ((c .before .before .before .before .before .before .before .before .args) .codes)) (omega arith), begun-room (now ((c .before .before .before .before .before .before .before .before .args) .codes)) (now ((c .before .before .before .before .before .before .before .before .args) .out)) ((c .before .before .before .before .before .loop) .count) ((c .before .before .before .before .before .loop) .at) ((c .before .before .before .before .before .loop) .out) ((c .before .before .before .before .before .loop) .inv .0) ((c .before .before .before .before .before .before .before .before .pre) .1) ((c .before .before .byte-of) .result .0) ((c .before .before .before .before .before .before .before .before .pre) .0) (omega (arith, (c .before .before .byte-of) .ensures, begun-place (now ((c .before .before .before .before .before .before .before .before .args) .codes)) (now ((c .before .before .before .before .before .before .before .before .args) .out)) ((c .before .before .before .before .before .loop) .count) ((c .before .before .before .before .before .loop) .at) ((c .before .before .before .before .before .loop) .out) ((c .before .before .before .before .before .loop) .inv .0) ((c .before .before .before .before .before .before .before .before .pre) .1))))
+write-twos-requires c κs = (
+  part-long ((c .before .before .before .before .before .loop) .at) 1 (now
+      ((c .before .before .before .before .before .before .before .before .args) .codes)) (omega arith),
+  begun-room (now
+      ((c .before .before .before .before .before .before .before .before .args) .codes)) (now
+      ((c .before .before .before .before .before .before .before .before .args) .out)) ((c .before .before .before .before .before .loop) .count)
+      ((c .before .before .before .before .before .loop) .at) ((c .before .before .before .before .before .loop) .out)
+      ((c .before .before .before .before .before .loop) .inv .0) ((c .before .before .before .before .before .before .before .before .pre) .1)
+      ((c .before .before .byte-of) .result .0) ((c .before .before .before .before .before .before .before .before .pre) .0) (omega (
+        arith,
+        (c .before .before .byte-of) .ensures,
+        begun-place (now ((c .before .before .before .before .before .before .before .before .args) .codes)) (now
+            ((c .before .before .before .before .before .before .before .before .args) .out)) ((c .before .before .before .before .before .loop) .count)
+            ((c .before .before .before .before .before .loop) .at) ((c .before .before .before .before .before .loop) .out)
+            ((c .before .before .before .before .before .loop) .inv .0) ((c .before .before .before .before .before .before .before .before .pre) .1),
+      )),
+)
 
 mul-at : tie.Need-mul-at Inv-loop μ-loop
 mul-at c = omega (arith, (c .before .before .write-twos) .ensures .0 .0)
@@ -61,7 +85,30 @@ loop-less : tie.Need-loop-less Inv-loop μ-loop
 loop-less c = search needs
 
 loop-again : tie.Need-loop-again Inv-loop μ-loop
-loop-again c = (begun-block (now ((c .before .before .before .before .before .before .before .before .before .before .before .args) .codes)) (now ((c .before .before .before .before .before .before .before .before .before .before .before .args) .out)) ((c .before .before .before .before .before .before .before .before .loop) .count) ((c .before .before .before .before .before .before .before .before .loop) .at) ((c .before .before .before .before .before .before .before .before .loop) .out) ((c .before .before .before .before .before .before .before .before .loop) .inv .0) ((c .before .before .before .before .before .before .before .before .before .before .before .pre) .1) ((c .before .before .write-twos) .result) ((c .before .before .before .before .before .byte-of) .result .0) ((c .before .before .write-twos) .last .1 .0) (omega (arith, (c .before .before .before .before .before .byte-of) .ensures, begun-place (now ((c .before .before .before .before .before .before .before .before .before .before .before .args) .codes)) (now ((c .before .before .before .before .before .before .before .before .before .before .before .args) .out)) ((c .before .before .before .before .before .before .before .before .loop) .count) ((c .before .before .before .before .before .before .before .before .loop) .at) ((c .before .before .before .before .before .before .before .before .loop) .out) ((c .before .before .before .before .before .before .before .before .loop) .inv .0) ((c .before .before .before .before .before .before .before .before .before .before .before .pre) .1))) ((c .before .before .write-twos) .ensures .0 .0) ((c .before .before .write-twos) .ensures .0 .1) ((c .before .before .write-twos) .ensures .1), omega arith)
+loop-again c = (
+  begun-block (now ((c .before .before .before .before .before .before .before .before .before .before .before .args) .codes)) (now
+      ((c .before .before .before .before .before .before .before .before .before .before .before .args) .out))
+      ((c .before .before .before .before .before .before .before .before .loop) .count)
+      ((c .before .before .before .before .before .before .before .before .loop) .at)
+      ((c .before .before .before .before .before .before .before .before .loop) .out)
+      ((c .before .before .before .before .before .before .before .before .loop) .inv .0)
+      ((c .before .before .before .before .before .before .before .before .before .before .before .pre) .1) ((c .before .before .write-twos) .result)
+      ((c .before .before .before .before .before .byte-of) .result .0) ((c .before .before .write-twos) .last .1 .0) (omega (
+        arith,
+        (c .before .before .before .before .before .byte-of) .ensures,
+        begun-place (now
+            ((c .before .before .before .before .before .before .before .before .before .before .before .args) .codes)) (now
+            ((c .before .before .before .before .before .before .before .before .before .before .before .args) .out))
+            ((c .before .before .before .before .before .before .before .before .loop) .count)
+            ((c .before .before .before .before .before .before .before .before .loop) .at)
+            ((c .before .before .before .before .before .before .before .before .loop) .out)
+            ((c .before .before .before .before .before .before .before .before .loop) .inv .0)
+            ((c .before .before .before .before .before .before .before .before .before .before .before .pre) .1),
+      ))
+      ((c .before .before .write-twos) .ensures .0 .0) ((c .before .before .write-twos) .ensures .0 .1)
+      ((c .before .before .write-twos) .ensures .1),
+  omega arith,
+)
 
 plain-at-requires : tie.Need-plain-at-requires Inv-loop μ-loop
 plain-at-requires c κs = search needs
@@ -70,7 +117,11 @@ two-single-requires : tie.Need-two-single-requires Inv-loop μ-loop
 two-single-requires c κs = (omega arith, sym ((c .before .plain-at) .ensures) ∙ (c .if2) .taken)
 
 put-packet-requires : tie.Need-put-packet-requires Inv-loop μ-loop
-put-packet-requires c κs = begun-place (now ((c .before .before .before .before .before .before .before .before .before .args) .codes)) (now ((c .before .before .before .before .before .before .before .before .before .args) .out)) ((c .before .before .before .before .before .before .loop) .count) ((c .before .before .before .before .before .before .loop) .at) ((c .before .before .before .before .before .before .loop) .out) ((c .before .before .before .before .before .before .loop) .inv .0) ((c .before .before .before .before .before .before .before .before .before .pre) .1)
+put-packet-requires c κs = begun-place (now ((c .before .before .before .before .before .before .before .before .before .args) .codes)) (now
+    ((c .before .before .before .before .before .before .before .before .before .args) .out))
+    ((c .before .before .before .before .before .before .loop) .count) ((c .before .before .before .before .before .before .loop) .at)
+    ((c .before .before .before .before .before .before .loop) .out) ((c .before .before .before .before .before .before .loop) .inv .0)
+    ((c .before .before .before .before .before .before .before .before .before .pre) .1)
 
 add-at-2 : tie.Need-add-at-2 Inv-loop μ-loop
 add-at-2 c = search needs
@@ -85,13 +136,33 @@ loop-less-2 : tie.Need-loop-less-2 Inv-loop μ-loop
 loop-less-2 c = search needs
 
 loop-again-2 : tie.Need-loop-again-2 Inv-loop μ-loop
-loop-again-2 c = (begun-two (now ((c .before .before .before .before .before .before .before .before .before .before .before .before .args) .codes)) (now ((c .before .before .before .before .before .before .before .before .before .before .before .before .args) .out)) ((c .before .before .before .before .before .before .before .before .before .loop) .count) ((c .before .before .before .before .before .before .before .before .before .loop) .at) ((c .before .before .before .before .before .before .before .before .before .loop) .out) ((c .before .before .before .before .before .before .before .before .before .loop) .inv .0) ((c .before .before .before .before .before .before .before .before .before .before .before .before .pre) .1) ((c .before .before .before .before .two-single) .result) _ ((c .before .before .before .before .two-single) .ensures) (sym ((c .before .before .before .before .before .before .plain-at) .ensures) ∙ (c .before .before .before .before .before .if2) .taken) (omega arith) ((c .before .before .put-packet) .ensures), omega arith)
+loop-again-2 c = (
+  begun-two (now ((c .before .before .before .before .before .before .before .before .before .before .before .before .args) .codes)) (now
+      ((c .before .before .before .before .before .before .before .before .before .before .before .before .args) .out))
+      ((c .before .before .before .before .before .before .before .before .before .loop) .count)
+      ((c .before .before .before .before .before .before .before .before .before .loop) .at)
+      ((c .before .before .before .before .before .before .before .before .before .loop) .out)
+      ((c .before .before .before .before .before .before .before .before .before .loop) .inv .0)
+      ((c .before .before .before .before .before .before .before .before .before .before .before .before .pre) .1)
+      ((c .before .before .before .before .two-single) .result) _ ((c .before .before .before .before .two-single) .ensures) (sym
+      ((c .before .before .before .before .before .before .plain-at) .ensures) ∙ (c .before .before .before .before .before .if2) .taken) (omega arith)
+      ((c .before .before .put-packet) .ensures),
+  omega arith,
+)
 
 five-packet-requires : tie.Need-five-packet-requires Inv-loop μ-loop
-five-packet-requires c κs = (omega arith, valid-below 1 (now ((c .before .before .before .before .before .before .before .args) .codes)) ((c .before .before .before .before .before .before .before .pre) .0))
+five-packet-requires c κs = (
+  omega arith,
+  valid-below 1 (now ((c .before .before .before .before .before .before .before .args) .codes))
+      ((c .before .before .before .before .before .before .before .pre) .0),
+)
 
 put-packet-requires-2 : tie.Need-put-packet-requires-2 Inv-loop μ-loop
-put-packet-requires-2 c κs = begun-place (now ((c .before .before .before .before .before .before .before .before .before .args) .codes)) (now ((c .before .before .before .before .before .before .before .before .before .args) .out)) ((c .before .before .before .before .before .before .loop) .count) ((c .before .before .before .before .before .before .loop) .at) ((c .before .before .before .before .before .before .loop) .out) ((c .before .before .before .before .before .before .loop) .inv .0) ((c .before .before .before .before .before .before .before .before .before .pre) .1)
+put-packet-requires-2 c κs = begun-place (now ((c .before .before .before .before .before .before .before .before .before .args) .codes)) (now
+    ((c .before .before .before .before .before .before .before .before .before .args) .out))
+    ((c .before .before .before .before .before .before .loop) .count) ((c .before .before .before .before .before .before .loop) .at)
+    ((c .before .before .before .before .before .before .loop) .out) ((c .before .before .before .before .before .before .loop) .inv .0)
+    ((c .before .before .before .before .before .before .before .before .before .pre) .1)
 
 add-at-3 : tie.Need-add-at-3 Inv-loop μ-loop
 add-at-3 c = search needs
@@ -103,7 +174,19 @@ loop-less-3 : tie.Need-loop-less-3 Inv-loop μ-loop
 loop-less-3 c = search needs
 
 loop-again-3 : tie.Need-loop-again-3 Inv-loop μ-loop
-loop-again-3 c = (begun-five (now ((c .before .before .before .before .before .before .before .before .before .before .before .before .args) .codes)) (now ((c .before .before .before .before .before .before .before .before .before .before .before .before .args) .out)) ((c .before .before .before .before .before .before .before .before .before .loop) .count) ((c .before .before .before .before .before .before .before .before .before .loop) .at) ((c .before .before .before .before .before .before .before .before .before .loop) .out) ((c .before .before .before .before .before .before .before .before .before .loop) .inv .0) ((c .before .before .before .before .before .before .before .before .before .before .before .before .pre) .1) ((c .before .before .before .before .five-packet) .result) _ ((c .before .before .before .before .five-packet) .ensures) (sym ((c .before .before .before .before .before .before .plain-at) .ensures) ∙ (c .before .before .before .before .before .if2) .left) (omega arith) ((c .before .before .put-packet2) .ensures), omega arith)
+loop-again-3 c = (
+  begun-five (now ((c .before .before .before .before .before .before .before .before .before .before .before .before .args) .codes)) (now
+      ((c .before .before .before .before .before .before .before .before .before .before .before .before .args) .out))
+      ((c .before .before .before .before .before .before .before .before .before .loop) .count)
+      ((c .before .before .before .before .before .before .before .before .before .loop) .at)
+      ((c .before .before .before .before .before .before .before .before .before .loop) .out)
+      ((c .before .before .before .before .before .before .before .before .before .loop) .inv .0)
+      ((c .before .before .before .before .before .before .before .before .before .before .before .before .pre) .1)
+      ((c .before .before .before .before .five-packet) .result) _ ((c .before .before .before .before .five-packet) .ensures) (sym
+      ((c .before .before .before .before .before .before .plain-at) .ensures) ∙ (c .before .before .before .before .before .if2) .left) (omega arith)
+      ((c .before .before .put-packet2) .ensures),
+  omega arith,
+)
 
 same-length : tie.Need-same-length Inv-loop μ-loop
 same-length c = (c .before .loop) .inv .0 .2

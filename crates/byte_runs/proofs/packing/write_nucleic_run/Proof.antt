@@ -16,7 +16,8 @@ use Rattle.byte_runs.proofs.packing.write_nucleic_run.Statement.{statem
 use Rattle.byte_runs.proofs.packing.write_nucleic_run.Tie as tie
 
 abbrev Inv-loop : tie.InvT-loop
-Inv-loop codes out₀ at₀ count₀ out at count = (at ≤ length codes - 1) × (count + length (run 1 (drop at codes)) ≡ count₀ + length (run 1 (drop at₀ codes))) × (length out ≡ length out₀)
+Inv-loop codes out₀ at₀ count₀ out at count = (at ≤ length codes - 1) × (count + length (run 1 (drop at codes)) ≡ count₀ + length (run 1
+    (drop at₀ codes))) × (length out ≡ length out₀)
     × (count + length (run 1 (drop at codes)) ≤ length out / 4)
     × (writtenAt (4 * count) (bytesOf (run 1 (drop at codes))) out ≡ writtenAt (4 * count₀) (bytesOf (run 1 (drop at₀ codes))) out₀)
 
@@ -29,7 +30,8 @@ write-inner-requires c κs = search needs
 loop-holds : tie.Need-loop-holds Inv-loop μ-loop
 loop-holds c =
     let b = (c .before .before .write-inner) .ensures in
-    let n = begun-length (now ((c .before .before .before .before .before .before .args) .codes)) (now ((c .before .before .before .before .before .before .args) .out)) _ _ _ b ((c .before .before .before .before .before .before .pre) .1) in
+    let n = begun-length (now ((c .before .before .before .before .before .before .args) .codes)) (now
+    ((c .before .before .before .before .before .before .args) .out)) _ _ _ b ((c .before .before .before .before .before .before .pre) .1) in
     (b .0, refl, refl, omega (arith, n, b .2, (c .before .before .before .before .before .before .pre) .1), refl)
 
 sub-left : tie.Need-sub-left Inv-loop μ-loop
@@ -48,10 +50,21 @@ encode-requires : tie.Need-encode-requires Inv-loop μ-loop
 encode-requires c κs = search needs
 
 put-packet-requires : tie.Need-put-packet-requires Inv-loop μ-loop
-put-packet-requires c κs = omega (arith, (c .before .before .before .loop) .inv .3, run-some 1 (drop ((c .before .before .before .loop) .at) (now ((c .before .before .before .before .before .before .before .before .before .before .args) .codes))))
+put-packet-requires c κs = omega (
+  arith,
+  (c .before .before .before .loop) .inv .3,
+  run-some 1 (drop ((c .before .before .before .loop) .at) (now
+      ((c .before .before .before .before .before .before .before .before .before .before .args) .codes))),
+)
 
 add-count : tie.Need-add-count Inv-loop μ-loop
-add-count c = omega (arith, (c .before .before .before .before .before .before .loop) .inv .3, run-some 1 (drop ((c .before .before .before .before .before .before .loop) .at) (now ((c .before .before .before .before .before .before .before .before .before .before .before .before .before .args) .codes))))
+add-count c = omega (
+  arith,
+  (c .before .before .before .before .before .before .loop) .inv .3,
+  run-some 1 (drop
+      ((c .before .before .before .before .before .before .loop) .at) (now
+      ((c .before .before .before .before .before .before .before .before .before .before .before .before .before .args) .codes))),
+)
 
 same-length : tie.Need-same-length Inv-loop μ-loop
 same-length c = search needs
@@ -65,9 +78,19 @@ returns c =
     let e = size-is 1 cs (l .at) s ((c .before .before .before .before .before .encode) .ensures .1) in
     let b = (c .before .before .before .before .before .before .before .before .before .before .write-inner) .ensures in
     let d = now ((c .before .before .before .before .before .before .before .before .before .before .before .before .before .before .args) .out) in
-    let f : run 1 (drop (l .at) cs) ≡ p ∷ [] = run-ends 1 cs (l .at) s e ((c .if1) .taken) ∙ ap (λ (x : ℕ). x ∷ []) (sym (packet-is 1 cs (l .at) p ((c .before .before .before .before .before .before .before .before .before .before .before .before .before .before .pre) .0) ((c .before .before .before .before .before .encode) .ensures .0))) in (
-      omega (arith, l .inv .1, ap length f, begun-length cs d _ _ _ b ((c .before .before .before .before .before .before .before .before .before .before .before .before .before .before .pre) .1)),
-      (c .before .before .before .put-packet) .ensures ∙ (ap (λ (x : List ℕ). writtenAt (4 * l .count) (bytesOf x) (l .out)) (sym f) ∙ (l .inv .4 ∙ begun-whole cs d _ _ _ b ((c .before .before .before .before .before .before .before .before .before .before .before .before .before .before .pre) .1))),
+    let f : run 1 (drop (l .at) cs) ≡ p ∷ [] = run-ends 1 cs (l .at) s e ((c .if1) .taken) ∙ ap (λ (x : ℕ). x ∷ []) (sym (packet-is 1 cs (l .at) p
+    ((c .before .before .before .before .before .before .before .before .before .before .before .before .before .before .pre) .0)
+    ((c .before .before .before .before .before .encode) .ensures .0))) in (
+      omega (
+        arith,
+        l .inv .1,
+        ap length f,
+        begun-length cs d _ _ _ b
+            ((c .before .before .before .before .before .before .before .before .before .before .before .before .before .before .pre) .1),
+      ),
+      (c .before .before .before .put-packet) .ensures ∙ (ap (λ (x : List ℕ). writtenAt (4 * l .count) (bytesOf x) (l .out)) (sym f) ∙
+          (l .inv .4 ∙ begun-whole cs d _ _ _ b
+          ((c .before .before .before .before .before .before .before .before .before .before .before .before .before .before .pre) .1))),
     )
 
 add-at : tie.Need-add-at Inv-loop μ-loop
@@ -90,7 +113,9 @@ loop-again c =
     let p = (c .before .before .before .before .before .encode) .result .packet in
     let e = size-is 1 cs (l .at) s ((c .before .before .before .before .before .encode) .ensures .1) in
     let f : run 1 (drop (l .at) cs) ≡ p ∷ run 1 (drop (l .at + s) cs) =
-    run-goes 1 cs (l .at) s e ((c .if1) .left) ∙ ap (λ (x : ℕ). x ∷ run 1 (drop (l .at + s) cs)) (sym (packet-is 1 cs (l .at) p ((c .before .before .before .before .before .before .before .before .before .before .before .before .before .before .pre) .0) ((c .before .before .before .before .before .encode) .ensures .0))) in
+    run-goes 1 cs (l .at) s e ((c .if1) .left) ∙ ap (λ (x : ℕ). x ∷ run 1 (drop (l .at + s) cs)) (sym (packet-is 1 cs (l .at) p
+    ((c .before .before .before .before .before .before .before .before .before .before .before .before .before .before .pre) .0)
+    ((c .before .before .before .before .before .encode) .ensures .0))) in
     let k : length (run 1 (drop (l .at) cs)) ≡ 1 + length (run 1 (drop (l .at + s) cs)) = ap length f ∙ omega arith in
     let n = put-one-length (l .count) p (l .out) _ ((c .before .before .before .put-packet) .ensures) (omega (arith, l .inv .3, k)) in (
       omega arith,

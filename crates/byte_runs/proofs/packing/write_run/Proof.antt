@@ -17,37 +17,94 @@ sub-write-amino-run : tie.Need-sub-write-amino-run
 sub-write-amino-run c = search needs
 
 part-write-amino-run-start : tie.Need-part-write-amino-run-start
-part-write-amino-run-start c = placed-start (run 3 (now ((c .before .before .before .before .args) .codes))) (run ((c .before .before .before .before .args) .alphabet) (now ((c .before .before .before .before .args) .codes))) (now ((c .before .before .before .before .args) .out)) ((c .before .before .before .before .args) .place .0) ((c .before .byte-of) .result .0) (ap (λ (x : ℕ). run x (now ((c .before .before .before .before .args) .codes))) (sym ((c .if1) .taken))) ((c .before .before .before .before .pre) .1) ((c .before .byte-of) .ensures)
+part-write-amino-run-start c = placed-start (run 3 (now ((c .before .before .before .before .args) .codes))) (run
+    ((c .before .before .before .before .args) .alphabet) (now ((c .before .before .before .before .args) .codes))) (now
+    ((c .before .before .before .before .args) .out)) ((c .before .before .before .before .args) .place .0) ((c .before .byte-of) .result .0) (ap (λ
+    (x : ℕ). run x (now ((c .before .before .before .before .args) .codes))) (sym ((c .if1) .taken))) ((c .before .before .before .before .pre) .1)
+    ((c .before .byte-of) .ensures)
 
 part-write-amino-run-end : tie.Need-part-write-amino-run-end
 part-write-amino-run-end c = search needs
 
 write-amino-run-requires : tie.Need-write-amino-run-requires
-write-amino-run-requires c κs = (rw ((c .before .if1) .taken) at ((c .before .before .before .before .before .pre) .0), placed-room (run 3 (now ((c .before .before .before .before .before .args) .codes))) (run ((c .before .before .before .before .before .args) .alphabet) (now ((c .before .before .before .before .before .args) .codes))) (now ((c .before .before .before .before .before .args) .out)) ((c .before .before .before .before .before .args) .place .0) ((c .before .before .byte-of) .result .0) (ap (λ (x : ℕ). run x (now ((c .before .before .before .before .before .args) .codes))) (sym ((c .before .if1) .taken))) ((c .before .before .before .before .before .pre) .1) ((c .before .before .byte-of) .ensures))
+write-amino-run-requires c κs = (
+  rw ((c .before .if1) .taken) at ((c .before .before .before .before .before .pre) .0),
+  placed-room (run 3 (now
+      ((c .before .before .before .before .before .args) .codes))) (run ((c .before .before .before .before .before .args) .alphabet) (now
+      ((c .before .before .before .before .before .args) .codes))) (now ((c .before .before .before .before .before .args) .out))
+      ((c .before .before .before .before .before .args) .place .0) ((c .before .before .byte-of) .result .0) (ap (λ (x : ℕ). run x (now
+      ((c .before .before .before .before .before .args) .codes))) (sym ((c .before .if1) .taken))) ((c .before .before .before .before .before .pre) .1)
+      ((c .before .before .byte-of) .ensures),
+)
 
 same-length : tie.Need-same-length
 same-length c = search needs
 
 returns : tie.Need-returns
-returns c = ((c .before .before .write-amino-run) .ensures .0 ∙ ap length (ap (λ (x : ℕ). run x (now ((c .before .before .before .before .before .before .before .before .args) .codes))) (sym ((c .before .before .before .before .if1) .taken))), placed (run 3 (now ((c .before .before .before .before .before .before .before .before .args) .codes))) (run ((c .before .before .before .before .before .before .before .before .args) .alphabet) (now ((c .before .before .before .before .before .before .before .before .args) .codes))) (now ((c .before .before .before .before .before .before .before .before .args) .out)) ((c .before .before .before .before .before .before .before .before .args) .place .0) ((c .before .before .before .before .before .byte-of) .result .0) (ap (λ (x : ℕ). run x (now ((c .before .before .before .before .before .before .before .before .args) .codes))) (sym ((c .before .before .before .before .if1) .taken))) ((c .before .before .before .before .before .before .before .before .pre) .1) ((c .before .before .before .before .before .byte-of) .ensures) _ ((c .before .before .write-amino-run) .ensures .1))
+returns c = (
+  (c .before .before .write-amino-run) .ensures .0 ∙ ap length (ap (λ (x : ℕ). run x (now
+      ((c .before .before .before .before .before .before .before .before .args) .codes))) (sym ((c .before .before .before .before .if1) .taken))),
+  placed
+      (run 3 (now ((c .before .before .before .before .before .before .before .before .args) .codes))) (run
+      ((c .before .before .before .before .before .before .before .before .args) .alphabet) (now
+      ((c .before .before .before .before .before .before .before .before .args) .codes))) (now
+      ((c .before .before .before .before .before .before .before .before .args) .out))
+      ((c .before .before .before .before .before .before .before .before .args) .place .0)
+      ((c .before .before .before .before .before .byte-of) .result .0) (ap (λ (x : ℕ). run x (now
+      ((c .before .before .before .before .before .before .before .before .args) .codes))) (sym ((c .before .before .before .before .if1) .taken)))
+      ((c .before .before .before .before .before .before .before .before .pre) .1) ((c .before .before .before .before .before .byte-of) .ensures) _
+      ((c .before .before .write-amino-run) .ensures .1),
+)
 
 sub-write-nucleic-run : tie.Need-sub-write-nucleic-run
 sub-write-nucleic-run c = search needs
 
 part-write-nucleic-run-start : tie.Need-part-write-nucleic-run-start
-part-write-nucleic-run-start c = placed-start (run 1 (now ((c .before .before .before .before .args) .codes))) (run ((c .before .before .before .before .args) .alphabet) (now ((c .before .before .before .before .args) .codes))) (now ((c .before .before .before .before .args) .out)) ((c .before .before .before .before .args) .place .0) ((c .before .byte-of) .result .0) (sym (run-same ((c .before .before .before .before .args) .alphabet) (ne-eqb ((c .before .before .before .before .args) .alphabet) 3 ((c .if1) .left)) (now ((c .before .before .before .before .args) .codes)))) ((c .before .before .before .before .pre) .1) ((c .before .byte-of) .ensures)
+part-write-nucleic-run-start c = placed-start (run 1 (now ((c .before .before .before .before .args) .codes))) (run
+    ((c .before .before .before .before .args) .alphabet) (now ((c .before .before .before .before .args) .codes))) (now
+    ((c .before .before .before .before .args) .out)) ((c .before .before .before .before .args) .place .0) ((c .before .byte-of) .result .0) (sym
+    (run-same ((c .before .before .before .before .args) .alphabet) (ne-eqb ((c .before .before .before .before .args) .alphabet) 3 ((c .if1) .left)) (now
+    ((c .before .before .before .before .args) .codes)))) ((c .before .before .before .before .pre) .1) ((c .before .byte-of) .ensures)
 
 part-write-nucleic-run-end : tie.Need-part-write-nucleic-run-end
 part-write-nucleic-run-end c = search needs
 
 write-nucleic-run-requires : tie.Need-write-nucleic-run-requires
-write-nucleic-run-requires c κs = (valid-same ((c .before .before .before .before .before .args) .alphabet) (ne-eqb ((c .before .before .before .before .before .args) .alphabet) 3 ((c .before .if1) .left)) (now ((c .before .before .before .before .before .args) .codes)) ((c .before .before .before .before .before .pre) .0), placed-room (run 1 (now ((c .before .before .before .before .before .args) .codes))) (run ((c .before .before .before .before .before .args) .alphabet) (now ((c .before .before .before .before .before .args) .codes))) (now ((c .before .before .before .before .before .args) .out)) ((c .before .before .before .before .before .args) .place .0) ((c .before .before .byte-of) .result .0) (sym (run-same ((c .before .before .before .before .before .args) .alphabet) (ne-eqb ((c .before .before .before .before .before .args) .alphabet) 3 ((c .before .if1) .left)) (now ((c .before .before .before .before .before .args) .codes)))) ((c .before .before .before .before .before .pre) .1) ((c .before .before .byte-of) .ensures))
+write-nucleic-run-requires c κs = (
+  valid-same ((c .before .before .before .before .before .args) .alphabet) (ne-eqb
+      ((c .before .before .before .before .before .args) .alphabet) 3 ((c .before .if1) .left)) (now
+      ((c .before .before .before .before .before .args) .codes)) ((c .before .before .before .before .before .pre) .0),
+  placed-room (run 1 (now
+      ((c .before .before .before .before .before .args) .codes))) (run ((c .before .before .before .before .before .args) .alphabet) (now
+      ((c .before .before .before .before .before .args) .codes))) (now ((c .before .before .before .before .before .args) .out))
+      ((c .before .before .before .before .before .args) .place .0) ((c .before .before .byte-of) .result .0) (sym (run-same
+      ((c .before .before .before .before .before .args) .alphabet) (ne-eqb ((c .before .before .before .before .before .args) .alphabet) 3
+      ((c .before .if1) .left)) (now ((c .before .before .before .before .before .args) .codes)))) ((c .before .before .before .before .before .pre) .1)
+      ((c .before .before .byte-of) .ensures),
+)
 
 same-length-2 : tie.Need-same-length-2
 same-length-2 c = search needs
 
 returns-2 : tie.Need-returns-2
-returns-2 c = ((c .before .before .write-nucleic-run) .ensures .0 ∙ ap length (sym (run-same ((c .before .before .before .before .before .before .before .before .args) .alphabet) (ne-eqb ((c .before .before .before .before .before .before .before .before .args) .alphabet) 3 ((c .before .before .before .before .if1) .left)) (now ((c .before .before .before .before .before .before .before .before .args) .codes)))), placed (run 1 (now ((c .before .before .before .before .before .before .before .before .args) .codes))) (run ((c .before .before .before .before .before .before .before .before .args) .alphabet) (now ((c .before .before .before .before .before .before .before .before .args) .codes))) (now ((c .before .before .before .before .before .before .before .before .args) .out)) ((c .before .before .before .before .before .before .before .before .args) .place .0) ((c .before .before .before .before .before .byte-of) .result .0) (sym (run-same ((c .before .before .before .before .before .before .before .before .args) .alphabet) (ne-eqb ((c .before .before .before .before .before .before .before .before .args) .alphabet) 3 ((c .before .before .before .before .if1) .left)) (now ((c .before .before .before .before .before .before .before .before .args) .codes)))) ((c .before .before .before .before .before .before .before .before .pre) .1) ((c .before .before .before .before .before .byte-of) .ensures) _ ((c .before .before .write-nucleic-run) .ensures .1))
+returns-2 c = (
+  (c .before .before .write-nucleic-run) .ensures .0 ∙ ap length (sym (run-same
+      ((c .before .before .before .before .before .before .before .before .args) .alphabet) (ne-eqb
+      ((c .before .before .before .before .before .before .before .before .args) .alphabet) 3 ((c .before .before .before .before .if1) .left)) (now
+      ((c .before .before .before .before .before .before .before .before .args) .codes)))),
+  placed (run 1 (now
+      ((c .before .before .before .before .before .before .before .before .args) .codes))) (run
+      ((c .before .before .before .before .before .before .before .before .args) .alphabet) (now
+      ((c .before .before .before .before .before .before .before .before .args) .codes))) (now
+      ((c .before .before .before .before .before .before .before .before .args) .out))
+      ((c .before .before .before .before .before .before .before .before .args) .place .0)
+      ((c .before .before .before .before .before .byte-of) .result .0) (sym (run-same
+      ((c .before .before .before .before .before .before .before .before .args) .alphabet) (ne-eqb
+      ((c .before .before .before .before .before .before .before .before .args) .alphabet) 3 ((c .before .before .before .before .if1) .left)) (now
+      ((c .before .before .before .before .before .before .before .before .args) .codes))))
+      ((c .before .before .before .before .before .before .before .before .pre) .1) ((c .before .before .before .before .before .byte-of) .ensures) _
+      ((c .before .before .write-nucleic-run) .ensures .1),
+)
 
 pub write-run-spec : {M : Type 1} → statement M
 write-run-spec =

@@ -17,13 +17,20 @@ use Rattle.byte_runs.proofs.packing.write_twos.Statement.{statement}
 use Rattle.byte_runs.proofs.packing.write_twos.Tie as tie
 
 abbrev Inv-loop : tie.InvT-loop
-Inv-loop codes out₀ n₀ out n = (15 * n < length codes) × (length out ≡ length out₀) × (plainParts codes n ≡ true) × (out ≡ writtenAt 0 (bytesOf (twos codes n)) out₀)
+Inv-loop codes out₀ n₀ out n = (15 * n < length codes) × (length out ≡ length out₀) × (plainParts codes n ≡ true) × (out ≡ writtenAt 0 (bytesOf
+    (twos codes n)) out₀)
 
 abbrev μ-loop : tie.MeasureT-loop
 μ-loop codes out₀ n₀ out n = length codes - 15 * n
 
 loop-holds : tie.Need-loop-holds Inv-loop μ-loop
-loop-holds c = ((c .before .before .pre) .0, refl, refl, bytes-start (λ next. twoBitPart next) 15 (now ((c .before .before .args) .codes)) (now ((c .before .before .args) .out)))
+loop-holds c = (
+  (c .before .before .pre) .0,
+  refl,
+  refl,
+  bytes-start (λ next. twoBitPart next) 15 (now ((c .before .before .args) .codes)) (now
+      ((c .before .before .args) .out)),
+)
 
 mul-plain-block : tie.Need-mul-plain-block Inv-loop μ-loop
 mul-plain-block c = search needs
@@ -53,7 +60,10 @@ part-sixteen-twos-end : tie.Need-part-sixteen-twos-end Inv-loop μ-loop
 part-sixteen-twos-end c = search needs
 
 sixteen-twos-requires : tie.Need-sixteen-twos-requires Inv-loop μ-loop
-sixteen-twos-requires c κs = let t = block-told (now ((c .before .before .before .before .before .before .before .args) .codes)) ((c .before .before .before .before .loop) .n) ((c .before .before .plain-block) .result) ((c .before .before .plain-block) .ensures) ((c .before .if1) .taken) in rw (part-rest (now ((c .before .before .before .before .before .before .before .args) .codes)) (15 * (c .before .before .before .before .loop) .n)) (t .1)
+sixteen-twos-requires c κs = let t = block-told (now ((c .before .before .before .before .before .before .before .args) .codes))
+    ((c .before .before .before .before .loop) .n) ((c .before .before .plain-block) .result) ((c .before .before .plain-block) .ensures)
+    ((c .before .if1) .taken) in rw (part-rest (now ((c .before .before .before .before .before .before .before .args) .codes)) (15 *
+    (c .before .before .before .before .loop) .n)) (t .1)
 
 byte-of-requires : tie.Need-byte-of-requires Inv-loop μ-loop
 byte-of-requires c κs = search needs
@@ -62,33 +72,76 @@ sub-put-sixteen : tie.Need-sub-put-sixteen Inv-loop μ-loop
 sub-put-sixteen c = search needs
 
 part-put-sixteen-start : tie.Need-part-put-sixteen-start Inv-loop μ-loop
-part-put-sixteen-start c = let t = block-told (now ((c .before .before .before .before .before .before .before .before .before .before .args) .codes)) ((c .before .before .before .before .before .before .before .loop) .n) ((c .before .before .before .before .before .plain-block) .result) ((c .before .before .before .before .before .plain-block) .ensures) ((c .before .before .before .before .if1) .taken) in omega (arith, t .0, (c .before .before .before .before .before .before .before .before .before .before .pre) .1, (c .before .byte-of) .ensures, (c .before .before .before .before .before .before .before .loop) .inv .1)
+part-put-sixteen-start c = let t = block-told (now ((c .before .before .before .before .before .before .before .before .before .before .args) .codes))
+    ((c .before .before .before .before .before .before .before .loop) .n) ((c .before .before .before .before .before .plain-block) .result)
+    ((c .before .before .before .before .before .plain-block) .ensures) ((c .before .before .before .before .if1) .taken) in omega (
+      arith,
+      t .0,
+      (c .before .before .before .before .before .before .before .before .before .before .pre) .1,
+      (c .before .byte-of) .ensures,
+      (c .before .before .before .before .before .before .before .loop) .inv .1,
+    )
 
 part-put-sixteen-end : tie.Need-part-put-sixteen-end Inv-loop μ-loop
 part-put-sixteen-end c = search needs
 
 put-sixteen-requires : tie.Need-put-sixteen-requires Inv-loop μ-loop
 put-sixteen-requires c κs =
-    let t = block-told (now ((c .before .before .before .before .before .before .before .before .before .before .before .args) .codes)) ((c .before .before .before .before .before .before .before .before .loop) .n) ((c .before .before .before .before .before .before .plain-block) .result) ((c .before .before .before .before .before .before .plain-block) .ensures) ((c .before .before .before .before .before .if1) .taken) in (
+    let t = block-told (now ((c .before .before .before .before .before .before .before .before .before .before .before .args) .codes))
+    ((c .before .before .before .before .before .before .before .before .loop) .n)
+    ((c .before .before .before .before .before .before .plain-block) .result)
+    ((c .before .before .before .before .before .before .plain-block) .ensures) ((c .before .before .before .before .before .if1) .taken) in (
       ap length ((c .before .before .before .sixteen-twos) .ensures) ∙ length-parts (λ next. twoBitPart next) 15 _ 16,
-      part-long ((c .before .before .byte-of) .result .0) 64 ((c .before .before .before .before .before .before .before .before .loop) .out) (omega (arith, t .0, (c .before .before .before .before .before .before .before .before .before .before .before .pre) .1, (c .before .before .byte-of) .ensures, (c .before .before .before .before .before .before .before .before .loop) .inv .1)),
+      part-long ((c .before .before .byte-of) .result .0) 64 ((c .before .before .before .before .before .before .before .before .loop) .out) (omega (
+        arith,
+        t .0,
+        (c .before .before .before .before .before .before .before .before .before .before .before .pre) .1,
+        (c .before .before .byte-of) .ensures,
+        (c .before .before .before .before .before .before .before .before .loop) .inv .1,
+      )),
     )
 
 add-n : tie.Need-add-n Inv-loop μ-loop
-add-n c = let t = block-told (now ((c .before .before .before .before .before .before .before .before .before .before .before .before .before .before .args) .codes)) ((c .before .before .before .before .before .before .before .before .before .before .before .loop) .n) ((c .before .before .before .before .before .before .before .before .before .plain-block) .result) ((c .before .before .before .before .before .before .before .before .before .plain-block) .ensures) ((c .before .before .before .before .before .before .before .before .if1) .taken) in omega (arith, t .0)
+add-n c = let t = block-told (now
+    ((c .before .before .before .before .before .before .before .before .before .before .before .before .before .before .args) .codes))
+    ((c .before .before .before .before .before .before .before .before .before .before .before .loop) .n)
+    ((c .before .before .before .before .before .before .before .before .before .plain-block) .result)
+    ((c .before .before .before .before .before .before .before .before .before .plain-block) .ensures)
+    ((c .before .before .before .before .before .before .before .before .if1) .taken) in omega (arith, t .0)
 
 loop-less : tie.Need-loop-less Inv-loop μ-loop
-loop-less c = let t = block-told (now ((c .before .before .before .before .before .before .before .before .before .before .before .before .before .before .args) .codes)) ((c .before .before .before .before .before .before .before .before .before .before .before .loop) .n) ((c .before .before .before .before .before .before .before .before .before .plain-block) .result) ((c .before .before .before .before .before .before .before .before .before .plain-block) .ensures) ((c .before .before .before .before .before .before .before .before .if1) .taken) in omega (arith, t .0)
+loop-less c = let t = block-told (now
+    ((c .before .before .before .before .before .before .before .before .before .before .before .before .before .before .args) .codes))
+    ((c .before .before .before .before .before .before .before .before .before .before .before .loop) .n)
+    ((c .before .before .before .before .before .before .before .before .before .plain-block) .result)
+    ((c .before .before .before .before .before .before .before .before .before .plain-block) .ensures)
+    ((c .before .before .before .before .before .before .before .before .if1) .taken) in omega (arith, t .0)
 
 loop-again : tie.Need-loop-again Inv-loop μ-loop
 loop-again c =
     let a = (c .before .before .before .before .before .before .before .before .before .before .before .before .before .before .args) in
     let l = (c .before .before .before .before .before .before .before .before .before .before .before .loop) in
-    let t = block-told (now ((c .before .before .before .before .before .before .before .before .before .before .before .before .before .before .args) .codes)) ((c .before .before .before .before .before .before .before .before .before .before .before .loop) .n) ((c .before .before .before .before .before .before .before .before .before .plain-block) .result) ((c .before .before .before .before .before .before .before .before .before .plain-block) .ensures) ((c .before .before .before .before .before .before .before .before .if1) .taken) in
-    let q : (c .before .before .before .before .before .byte-of) .result .0 ≡ 4 * l .n = omega (arith, t .0, (c .before .before .before .before .before .before .before .before .before .before .before .before .before .before .pre) .1, (c .before .before .before .before .before .byte-of) .ensures) in
-    let r : 4 * (l .n + 16) ≤ length (now (a .out)) = omega (arith, t .0, (c .before .before .before .before .before .before .before .before .before .before .before .before .before .before .pre) .1) in
-    let e = parts-behind (λ next. twoBitPart next) 15 (now (a .codes)) (l .n) 16 (now (a .out)) (l .out) ((c .before .before .before .before .before .before .sixteen-twos) .result) ((c .before .before .put-sixteen) .last .1 .0)
-    ((c .before .before .before .before .before .byte-of) .result .0) (l .inv .3) r (l .inv .1) ((c .before .before .before .before .before .before .sixteen-twos) .ensures) q ((c .before .before .put-sixteen) .ensures) in (
+    let t = block-told (now
+    ((c .before .before .before .before .before .before .before .before .before .before .before .before .before .before .args) .codes))
+    ((c .before .before .before .before .before .before .before .before .before .before .before .loop) .n)
+    ((c .before .before .before .before .before .before .before .before .before .plain-block) .result)
+    ((c .before .before .before .before .before .before .before .before .before .plain-block) .ensures)
+    ((c .before .before .before .before .before .before .before .before .if1) .taken) in
+    let q : (c .before .before .before .before .before .byte-of) .result .0 ≡ 4 * l .n = omega (
+      arith,
+      t .0,
+      (c .before .before .before .before .before .before .before .before .before .before .before .before .before .before .pre) .1,
+      (c .before .before .before .before .before .byte-of) .ensures,
+    ) in
+    let r : 4 * (l .n + 16) ≤ length (now (a .out)) = omega (
+      arith,
+      t .0,
+      (c .before .before .before .before .before .before .before .before .before .before .before .before .before .before .pre) .1,
+    ) in
+    let e = parts-behind (λ next. twoBitPart next) 15 (now (a .codes)) (l .n) 16 (now (a .out)) (l .out)
+    ((c .before .before .before .before .before .before .sixteen-twos) .result) ((c .before .before .put-sixteen) .last .1 .0)
+    ((c .before .before .before .before .before .byte-of) .result .0) (l .inv .3) r (l .inv .1)
+    ((c .before .before .before .before .before .before .sixteen-twos) .ensures) q ((c .before .before .put-sixteen) .ensures) in (
       omega (arith, t .0),
       parts-length (λ next. twoBitPart next) 15 (now (a .codes)) (l .n + 16) (now (a .out)) _ e r,
       parts-plain (now (a .codes)) (l .n) (l .inv .2) (t .1),
