@@ -1,7 +1,10 @@
 pub mod Stores
-pub mod Sixes
+pub mod Packed
+pub mod Runs
+pub mod Fives
+pub mod Twos
+pub mod Begun
 pub mod Blocks
-pub mod Amino
 pub mod Answers
 pub mod Rules
 pub mod Bodies

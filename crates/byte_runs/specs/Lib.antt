@@ -1,3 +1,4 @@
+pub mod Packed
 pub mod Blocks
 pub mod Bytes
 pub mod Rules

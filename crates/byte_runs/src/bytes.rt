@@ -1,11 +1,13 @@
 // One packet as little-endian bytes at a place.
 use packets::PacketPos;
 ghost use mathlib.Core.Path.{_≡_};
-ghost use Prim.Native.Nat.{_+_, _/_, _≤_, _<_};
+ghost use mathlib.Core.List.{[], _∷_};
+ghost use Prim.Native.Nat.{_+_, _*_, _/_, _≤_, _<_};
 ghost use lib.ListN.{length, getD};
 ghost use Rattle.laws.specs.Writing.{writtenAt};
 ghost use Rattle.fields.specs.Written.{littleBytes};
-ghost use Rattle.packets.specs.Bytes.{packetsOf};
+ghost use Rattle.packets.specs.Packing.{fourFrom};
+ghost use Rattle.packets.specs.Bytes.{packetsOf, bytesOf};
 
 // A byte as a wider number.
 pub(crate) fn wide(b: u8) -> u32
@@ -15,17 +17,24 @@ pub(crate) fn wide(b: u8) -> u32
     b as u32
 }
 
+// Four bytes from a place on, as a number, the first lowest.
+pub(crate) fn four_at(bytes: &[u8], at: usize) -> u32
+    requires { ⌜ at + 4 ≤ length (now bytes) ⌝ }
+    ensures { λ r. ⌜ r ≡ fourFrom (now (bytes .entry)) at ⌝ }
+{
+    wide(bytes[at])
+        + wide(bytes[at + 1]) * 256
+        + wide(bytes[at + 2]) * 65536
+        + wide(bytes[at + 3]) * 16777216
+}
+
 // The packet at a place.
 pub(crate) fn packet_at(bytes: &[u8], place: PacketPos) -> u32
     requires { ⌜ place .0 < length (now bytes) / 4 ⌝ }
     ensures { λ r. ⌜ r ≡ getD (packetsOf (now (bytes .entry))) (place .0) 0 ⌝ }
 {
     let from = packets::byte_of(place, 0);
-    let at = from.0 as usize;
-    wide(bytes[at])
-        + wide(bytes[at + 1]) * 256
-        + wide(bytes[at + 2]) * 65536
-        + wide(bytes[at + 3]) * 16777216
+    four_at(bytes, from.0 as usize)
 }
 
 // Writes the low bytes of a number from a place on, the lowest first.
@@ -40,4 +49,13 @@ pub(crate) fn store(n: u32, count: usize, out: &mut [u8], at: usize)
         rest = rest / 256;
         j += 1;
     }
+}
+
+// Writes a packet at its place.
+pub(crate) fn put_packet(packet: u32, out: &mut [u8], place: PacketPos)
+    requires { ⌜ place .0 < length (now out) / 4 ⌝ }
+    ensures { λ _. ⌜ now (out .exit) ≡ writtenAt (4 * place .0) (bytesOf (packet ∷ [])) (now (out .entry)) ⌝ }
+{
+    let from = packets::byte_of(place, 0);
+    store(packet, 4, out, from.0 as usize);
 }
