@@ -43,10 +43,7 @@ part-write-twos-start-2 : tie.Need-part-write-twos-start-2 Inv-loop μ-loop
 part-write-twos-start-2 c = omega (
   arith,
   (c .before .byte-of) .ensures,
-  begun-place (now
-      ((c .before .before .before .before .before .before .before .args) .codes)) (now
-      ((c .before .before .before .before .before .before .before .args) .out)) ((c .before .before .before .before .loop) .count)
-      ((c .before .before .before .before .loop) .at) ((c .before .before .before .before .loop) .out) ((c .before .before .before .before .loop) .inv .0)
+  begun-place _ _ _ _ _ ((c .before .before .before .before .loop) .inv .0)
       ((c .before .before .before .before .before .before .before .pre) .1),
 )
 
@@ -57,18 +54,11 @@ write-twos-requires : tie.Need-write-twos-requires Inv-loop μ-loop
 write-twos-requires c κs = (
   part-long ((c .before .before .before .before .before .loop) .at) 1 (now
       ((c .before .before .before .before .before .before .before .before .args) .codes)) (omega arith),
-  begun-room (now
-      ((c .before .before .before .before .before .before .before .before .args) .codes)) (now
-      ((c .before .before .before .before .before .before .before .before .args) .out)) ((c .before .before .before .before .before .loop) .count)
-      ((c .before .before .before .before .before .loop) .at) ((c .before .before .before .before .before .loop) .out)
-      ((c .before .before .before .before .before .loop) .inv .0) ((c .before .before .before .before .before .before .before .before .pre) .1)
+  begun-room _ _ _ _ _ ((c .before .before .before .before .before .loop) .inv .0) ((c .before .before .before .before .before .before .before .before .pre) .1)
       ((c .before .before .byte-of) .result .0) ((c .before .before .before .before .before .before .before .before .pre) .0) (omega (
         arith,
         (c .before .before .byte-of) .ensures,
-        begun-place (now ((c .before .before .before .before .before .before .before .before .args) .codes)) (now
-            ((c .before .before .before .before .before .before .before .before .args) .out)) ((c .before .before .before .before .before .loop) .count)
-            ((c .before .before .before .before .before .loop) .at) ((c .before .before .before .before .before .loop) .out)
-            ((c .before .before .before .before .before .loop) .inv .0) ((c .before .before .before .before .before .before .before .before .pre) .1),
+        begun-place _ _ _ _ _ ((c .before .before .before .before .before .loop) .inv .0) ((c .before .before .before .before .before .before .before .before .pre) .1),
       )),
 )
 
@@ -86,23 +76,12 @@ loop-less c = search needs
 
 loop-again : tie.Need-loop-again Inv-loop μ-loop
 loop-again c = (
-  begun-block (now ((c .before .before .before .before .before .before .before .before .before .before .before .args) .codes)) (now
-      ((c .before .before .before .before .before .before .before .before .before .before .before .args) .out))
-      ((c .before .before .before .before .before .before .before .before .loop) .count)
-      ((c .before .before .before .before .before .before .before .before .loop) .at)
-      ((c .before .before .before .before .before .before .before .before .loop) .out)
-      ((c .before .before .before .before .before .before .before .before .loop) .inv .0)
+  begun-block _ _ _ _ _ ((c .before .before .before .before .before .before .before .before .loop) .inv .0)
       ((c .before .before .before .before .before .before .before .before .before .before .before .pre) .1) ((c .before .before .write-twos) .result)
       ((c .before .before .before .before .before .byte-of) .result .0) ((c .before .before .write-twos) .last .1 .0) (omega (
         arith,
         (c .before .before .before .before .before .byte-of) .ensures,
-        begun-place (now
-            ((c .before .before .before .before .before .before .before .before .before .before .before .args) .codes)) (now
-            ((c .before .before .before .before .before .before .before .before .before .before .before .args) .out))
-            ((c .before .before .before .before .before .before .before .before .loop) .count)
-            ((c .before .before .before .before .before .before .before .before .loop) .at)
-            ((c .before .before .before .before .before .before .before .before .loop) .out)
-            ((c .before .before .before .before .before .before .before .before .loop) .inv .0)
+        begun-place _ _ _ _ _ ((c .before .before .before .before .before .before .before .before .loop) .inv .0)
             ((c .before .before .before .before .before .before .before .before .before .before .before .pre) .1),
       ))
       ((c .before .before .write-twos) .ensures .0 .0) ((c .before .before .write-twos) .ensures .0 .1)
@@ -117,10 +96,7 @@ two-single-requires : tie.Need-two-single-requires Inv-loop μ-loop
 two-single-requires c κs = (omega arith, sym ((c .before .plain-at) .ensures) ∙ (c .if2) .taken)
 
 put-packet-requires : tie.Need-put-packet-requires Inv-loop μ-loop
-put-packet-requires c κs = begun-place (now ((c .before .before .before .before .before .before .before .before .before .args) .codes)) (now
-    ((c .before .before .before .before .before .before .before .before .before .args) .out))
-    ((c .before .before .before .before .before .before .loop) .count) ((c .before .before .before .before .before .before .loop) .at)
-    ((c .before .before .before .before .before .before .loop) .out) ((c .before .before .before .before .before .before .loop) .inv .0)
+put-packet-requires c κs = begun-place _ _ _ _ _ ((c .before .before .before .before .before .before .loop) .inv .0)
     ((c .before .before .before .before .before .before .before .before .before .pre) .1)
 
 add-at-2 : tie.Need-add-at-2 Inv-loop μ-loop
@@ -137,12 +113,7 @@ loop-less-2 c = search needs
 
 loop-again-2 : tie.Need-loop-again-2 Inv-loop μ-loop
 loop-again-2 c = (
-  begun-two (now ((c .before .before .before .before .before .before .before .before .before .before .before .before .args) .codes)) (now
-      ((c .before .before .before .before .before .before .before .before .before .before .before .before .args) .out))
-      ((c .before .before .before .before .before .before .before .before .before .loop) .count)
-      ((c .before .before .before .before .before .before .before .before .before .loop) .at)
-      ((c .before .before .before .before .before .before .before .before .before .loop) .out)
-      ((c .before .before .before .before .before .before .before .before .before .loop) .inv .0)
+  begun-two _ _ _ _ _ ((c .before .before .before .before .before .before .before .before .before .loop) .inv .0)
       ((c .before .before .before .before .before .before .before .before .before .before .before .before .pre) .1)
       ((c .before .before .before .before .two-single) .result) _ ((c .before .before .before .before .two-single) .ensures) (sym
       ((c .before .before .before .before .before .before .plain-at) .ensures) ∙ (c .before .before .before .before .before .if2) .taken) (omega arith)
@@ -158,10 +129,7 @@ five-packet-requires c κs = (
 )
 
 put-packet-requires-2 : tie.Need-put-packet-requires-2 Inv-loop μ-loop
-put-packet-requires-2 c κs = begun-place (now ((c .before .before .before .before .before .before .before .before .before .args) .codes)) (now
-    ((c .before .before .before .before .before .before .before .before .before .args) .out))
-    ((c .before .before .before .before .before .before .loop) .count) ((c .before .before .before .before .before .before .loop) .at)
-    ((c .before .before .before .before .before .before .loop) .out) ((c .before .before .before .before .before .before .loop) .inv .0)
+put-packet-requires-2 c κs = begun-place _ _ _ _ _ ((c .before .before .before .before .before .before .loop) .inv .0)
     ((c .before .before .before .before .before .before .before .before .before .pre) .1)
 
 add-at-3 : tie.Need-add-at-3 Inv-loop μ-loop
@@ -175,12 +143,7 @@ loop-less-3 c = search needs
 
 loop-again-3 : tie.Need-loop-again-3 Inv-loop μ-loop
 loop-again-3 c = (
-  begun-five (now ((c .before .before .before .before .before .before .before .before .before .before .before .before .args) .codes)) (now
-      ((c .before .before .before .before .before .before .before .before .before .before .before .before .args) .out))
-      ((c .before .before .before .before .before .before .before .before .before .loop) .count)
-      ((c .before .before .before .before .before .before .before .before .before .loop) .at)
-      ((c .before .before .before .before .before .before .before .before .before .loop) .out)
-      ((c .before .before .before .before .before .before .before .before .before .loop) .inv .0)
+  begun-five _ _ _ _ _ ((c .before .before .before .before .before .before .before .before .before .loop) .inv .0)
       ((c .before .before .before .before .before .before .before .before .before .before .before .before .pre) .1)
       ((c .before .before .before .before .five-packet) .result) _ ((c .before .before .before .before .five-packet) .ensures) (sym
       ((c .before .before .before .before .before .before .plain-at) .ensures) ∙ (c .before .before .before .before .before .if2) .left) (omega arith)
