@@ -3,7 +3,7 @@ pub mod Packed
 pub mod Runs
 pub mod Fives
 pub mod Twos
-pub mod Begun
+pub mod RunBegun
 pub mod Blocks
 pub mod Answers
 pub mod Rules

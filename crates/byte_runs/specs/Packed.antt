@@ -46,7 +46,7 @@ moved codes = codes * 0x40100401 / 16777216 % 256
 
 -- The first packets of a nucleic run are written at the start of an output that was `old` at first and is `new` now; the packets that are left
 -- are those of the codes behind the codes that are taken.
-abbrev pub Begun : List ℕ → List ℕ → ℕ → ℕ → List ℕ → Type 0
-Begun codes old packets taken new =
+abbrev pub RunBegun : List ℕ → List ℕ → ℕ → ℕ → List ℕ → Type 0
+RunBegun codes old packets taken new =
     (taken ≤ length codes - 1) × (packets ≤ length (run 1 codes)) × (length new ≡ length old)
     × (new ≡ writtenAt 0 (bytesOf (take packets (run 1 codes))) old) × (drop packets (run 1 codes) ≡ run 1 (drop taken codes))

@@ -14,7 +14,7 @@ ghost use Rattle.residues.specs.Alphabets.{validCodes};
 ghost use Rattle.packets.specs.Positions.{byteOf};
 ghost use Rattle.packets.specs.Packing.{plain, twoBitPart, fiveBitPart, run};
 ghost use Rattle.packets.specs.Bytes.{bytesOf};
-ghost use Rattle.byte_runs.specs.Packed.{fives, twos, SixCodes, sixPacket, FourBases, moved, plainParts, Begun};
+ghost use Rattle.byte_runs.specs.Packed.{fives, twos, SixCodes, sixPacket, FourBases, moved, plainParts, RunBegun};
 
 // How many packets are written, and how many codes they take.
 struct Written {
@@ -233,7 +233,7 @@ fn write_twos(codes: &[u8], out: &mut [u8]) -> usize
 // are tried at first and after sixteen of them in a row.
 fn write_inner(codes: &[u8], out: &mut [u8]) -> Written
     requires { ⌜ (validCodes 1 (now codes) ≡ true) × (length (run 1 (now codes)) ≤ length (now out) / 4) ⌝ }
-    ensures { λ r. ⌜ Begun (now (codes .entry)) (now (out .entry)) (r .packets) (r .codes) (now (out .exit)) ⌝ }
+    ensures { λ r. ⌜ RunBegun (now (codes .entry)) (now (out .entry)) (r .packets) (r .codes) (now (out .exit)) ⌝ }
 {
     let mut at: usize = 0;
     let mut count: usize = 0;

@@ -5,15 +5,15 @@ use native.Mathlib.Omega.{arith}
 use lib.ListN.{length}
 use denote.Ref.{now}
 use Rattle.residues.proofs.Alphabets.{valid-below}
-use Rattle.byte_runs.specs.Packed.{Begun}
+use Rattle.byte_runs.specs.Packed.{RunBegun}
 use Rattle.byte_runs.proofs.Packed.{part-long}
-use Rattle.byte_runs.proofs.Begun.{begun-none, begun-place, begun-two, begun-five, begun-room, begun-block}
+use Rattle.byte_runs.proofs.RunBegun.{begun-none, begun-place, begun-two, begun-five, begun-room, begun-block}
 use borrow.Author.Needs.{needs}
 use Rattle.byte_runs.proofs.packing.write_inner.Statement.{statement}
 use Rattle.byte_runs.proofs.packing.write_inner.Tie as tie
 
 abbrev Inv-loop : tie.InvT-loop
-Inv-loop codes out₀ at₀ count₀ row₀ out at count row = Begun codes out₀ count at out × (row ≤ 16)
+Inv-loop codes out₀ at₀ count₀ row₀ out at count row = RunBegun codes out₀ count at out × (row ≤ 16)
 
 abbrev μ-loop : tie.MeasureT-loop
 μ-loop codes out₀ at₀ count₀ row₀ out at count row = 2 * (length codes - at) + row / 16

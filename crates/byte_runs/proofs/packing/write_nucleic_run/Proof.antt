@@ -10,7 +10,7 @@ use Rattle.packets.specs.Packing.{run, packet}
 use Rattle.packets.specs.Bytes.{bytesOf}
 use Rattle.packets.proofs.Packing.{size-some, run-some}
 use Rattle.runs.proofs.Turns.{size-is, packet-is, run-ends, run-goes}
-use Rattle.byte_runs.proofs.Begun.{begun-whole, begun-length, put-next, put-one-length}
+use Rattle.byte_runs.proofs.RunBegun.{begun-whole, begun-length, put-next, put-one-length}
 use borrow.Author.Needs.{needs}
 use Rattle.byte_runs.proofs.packing.write_nucleic_run.Statement.{statement}
 use Rattle.byte_runs.proofs.packing.write_nucleic_run.Tie as tie

@@ -5,7 +5,7 @@ use borrow.Author.Tests.{ne-eqb}
 use denote.Ref.{now}
 use lib.ListN.{length}
 use Rattle.packets.specs.Packing.{run}
-use Rattle.byte_runs.proofs.Begun.{run-same, valid-same, placed-start, placed-room, placed}
+use Rattle.byte_runs.proofs.RunBegun.{run-same, valid-same, placed-start, placed-room, placed}
 use borrow.Author.Needs.{needs}
 use Rattle.byte_runs.proofs.packing.write_run.Statement.{statement}
 use Rattle.byte_runs.proofs.packing.write_run.Tie as tie

@@ -20,7 +20,7 @@ use Rattle.packets.proofs.Bytes.{length-bytes, bytes-append}
 use Rattle.packets.proofs.Lengths.{unpacked-most}
 use Rattle.packets.proofs.Packing.{plain-two, run-some}
 use Rattle.packets.proofs.Round.{unpacked-run}
-use Rattle.byte_runs.specs.Packed.{twos, plainParts, Begun}
+use Rattle.byte_runs.specs.Packed.{twos, plainParts, RunBegun}
 use Rattle.byte_runs.proofs.Packed.{length-parts, part-long, part-put, put-none, put-inside, put-more, put-rest, put-length, put-behind}
 use Rattle.byte_runs.proofs.Runs.{run-parts, two-goes, five-goes}
 
@@ -67,14 +67,14 @@ put-next c p whole rest out e room =
 pub put-one-length : (c p : ℕ) (out new : List ℕ) → new ≡ writtenAt (4 * c) (bytesOf (p ∷ [])) out → c < length out / 4 → length new ≡ length out
 put-one-length c p out new e h = ap length e ∙ length-written (4 * c) (bytesOf (p ∷ [])) out (omega (arith, length-bytes (p ∷ [])))
 
-pub begun-none : (cs d : List ℕ) → Begun cs d 0 0 d
+pub begun-none : (cs d : List ℕ) → RunBegun cs d 0 0 d
 begun-none cs d = (omega arith, omega arith, refl, put-none (run 1 cs) d, refl)
 
 -- fifteen codes to a packet are the most
 run-least : (cs : List ℕ) → validCodes 1 cs ≡ true → length cs ≤ 15 * length (run 1 cs)
 run-least cs v = omega (arith, unpacked-most (run 1 cs), ap length (unpacked-run 1 cs v))
 
-module _ (cs d : List ℕ) (count at : ℕ) (out : List ℕ) (b : Begun cs d count at out) (room : length (run 1 cs) ≤ length d / 4) where
+module _ (cs d : List ℕ) (count at : ℕ) (out : List ℕ) (b : RunBegun cs d count at out) (room : length (run 1 cs) ≤ length d / 4) where
   left : length (run 1 cs) - count ≡ length (run 1 (drop at cs))
   left = sym (length-drop count (run 1 cs)) ∙ ap length (b .4)
 
@@ -86,7 +86,7 @@ module _ (cs d : List ℕ) (count at : ℕ) (out : List ℕ) (b : Begun cs d cou
     here : drop count (run 1 cs) ≡ ps ++ run 1 (drop (at + s) cs)
     here = b .4 ∙ step
 
-    pub begun-more : (new : List ℕ) → new ≡ writtenAt (4 * count) (bytesOf ps) out → Begun cs d (count + length ps) (at + s) new
+    pub begun-more : (new : List ℕ) → new ≡ writtenAt (4 * count) (bytesOf ps) out → RunBegun cs d (count + length ps) (at + s) new
     begun-more new w =
         let rest = run 1 (drop (at + s) cs) in
         let i = put-inside (run 1 cs) d count out (b .3) (b .1) (omega arith) count ps rest here (omega arith) (omega arith) in
@@ -112,12 +112,12 @@ module _ (cs d : List ℕ) (count at : ℕ) (out : List ℕ) (b : Begun cs d cou
 
   -- a 2-bit packet, and a 5-bit packet
   pub begun-two : (p : ℕ) (new : List ℕ) → p ≡ twoBitPart (drop at cs) → plain 15 (drop at cs) ≡ true → 15 < length cs - at
-      → new ≡ writtenAt (4 * count) (bytesOf (p ∷ [])) out → Begun cs d (count + 1) (at + 15) new
+      → new ≡ writtenAt (4 * count) (bytesOf (p ∷ [])) out → RunBegun cs d (count + 1) (at + 15) new
   begun-two p new e f h =
       begun-more (p ∷ []) 15 (two-goes 1 cs at (plain-two 1 (drop at cs) refl ∙ f) h ∙ ap (λ (x : ℕ). x ∷ run 1 (drop (at + 15) cs)) (sym e)) (omega arith) new
 
   pub begun-five : (p : ℕ) (new : List ℕ) → p ≡ fiveBitPart (drop at cs) → plain 15 (drop at cs) ≡ false → 6 < length cs - at
-      → new ≡ writtenAt (4 * count) (bytesOf (p ∷ [])) out → Begun cs d (count + 1) (at + 6) new
+      → new ≡ writtenAt (4 * count) (bytesOf (p ∷ [])) out → RunBegun cs d (count + 1) (at + 6) new
   begun-five p new e f h =
       begun-more (p ∷ []) 6 (five-goes 1 cs at (plain-two 1 (drop at cs) refl ∙ f) h ∙ ap (λ (x : ℕ). x ∷ run 1 (drop (at + 6) cs)) (sym e)) (omega arith) new
 
@@ -132,7 +132,7 @@ module _ (cs d : List ℕ) (count at : ℕ) (out : List ℕ) (b : Begun cs d cou
   pub begun-block : (n start : ℕ) (last : List ℕ) → start ≡ 4 * count → 15 * n < length (midOf at (length cs - at) cs)
       → plainParts (midOf at (length cs - at) cs) n ≡ true
       → last ≡ writtenAt 0 (bytesOf (twos (midOf at (length cs - at) cs) n)) (midOf start (length out - start) out)
-      → Begun cs d (count + n) (at + 15 * n) (putMid start (length out - start) out last)
+      → RunBegun cs d (count + n) (at + 15 * n) (putMid start (length out - start) out last)
   begun-block n start last q h f w =
       let ds = drop at cs in
       let l : length ds ≡ length cs - at = length-drop at cs in
@@ -148,8 +148,8 @@ module _ (cs d : List ℕ) (count at : ℕ) (out : List ℕ) (b : Begun cs d cou
       ∙ ap (λ (x : List ℕ). writtenAt (4 * count) (bytesOf (twos x n)) out) (part-rest cs at)) in
       ap-count c (begun-more (twos ds n) (15 * n) step (omega arith) (putMid start (length out - start) out last) e)
     where
-      ap-count : {m n : ℕ} {t : ℕ} {new : List ℕ} → m ≡ n → Begun cs d (count + m) t new → Begun cs d (count + n) t new
-      ap-count {t = t} {new = new} e x = subst (λ (k : ℕ). Begun cs d (count + k) t new) e x
+      ap-count : {m n : ℕ} {t : ℕ} {new : List ℕ} → m ≡ n → RunBegun cs d (count + m) t new → RunBegun cs d (count + n) t new
+      ap-count {t = t} {new = new} e x = subst (λ (k : ℕ). RunBegun cs d (count + k) t new) e x
 
 -- ---- a run that is written at the start of a part of the output
 
