@@ -145,7 +145,8 @@ six-front p a b c d ea eb =
     ap (take (length (digits 5 6 p))) whole ∙ take-append-seam (digits 5 6 p) z
 
 -- a packet of either kind, of which one number or another was picked
-pub mixed-front : (p a b c d a' b' : ℕ) → littleBytes 4 a ≡ digits 5 4 (p / 1024) → littleBytes 2 b ≡ digits 5 2 p → littleBytes 4 a' ≡ digits 2 4 (p / 4194304 % 256)
+pub mixed-front : (p a b c d a' b' : ℕ) → littleBytes 4 a ≡ digits 5 4 (p / 1024) → littleBytes 2 b ≡ digits 5 2 p → littleBytes 4 a' ≡ digits 2 4
+    (p / 4194304 % 256)
     → littleBytes 4 b' ≡ digits 2 4 (p / 16384 % 256) → littleBytes 4 c ≡ digits 2 4 (p / 64 % 256) → littleBytes 4 d ≡ digits 2 4 (p % 64 * 4)
     → Fronts (codesIn p) (bytesOfFour (cond (isFiveBit p) a a') (cond (isFiveBit p) b b') c d)
 mixed-front p a b c d a' b' ea eb ea' eb' ec ed =
@@ -188,7 +189,8 @@ pub count-next : (ps : List ℕ) (n : ℕ) → length (codesFrom ps 0 (n + 1)) �
 count-next ps n = ap length (first-next ps n) ∙ length-append (codesFrom ps 0 n) (codesIn (getD ps n 0))
 
 -- n packets are written from `place` on, and the bytes zs of the next from `at` on
-module _ (ps : List ℕ) (n place at end : ℕ) (d out zs : List ℕ) (so-far : Begun place (codesFrom ps 0 n) end d out) (here : at ≡ place + length (codesFrom ps 0 n))
+module _ (ps : List ℕ) (n place at end : ℕ) (d out zs : List ℕ) (so-far : Begun place (codesFrom ps 0 n) end d out)
+    (here : at ≡ place + length (codesFrom ps 0 n))
     (f : Fronts (codesIn (getD ps n 0)) zs) (low : at + length zs ≤ end) (high : end ≤ length d) where
   pub begun-more : Begun place (codesFrom ps 0 (n + 1)) end d (writtenAt at zs out)
   begun-more =
@@ -200,19 +202,22 @@ module _ (ps : List ℕ) (n place at end : ℕ) (d out zs : List ℕ) (so-far : 
 pub codes-within : (ps : List ℕ) (j n : ℕ) → j < n → length (codesFrom ps 0 j) + length (codesIn (getD ps j 0)) ≤ length (codesFrom ps 0 n)
 codes-within ps j n h =
     let s : j + 1 + (n - (j + 1)) ≡ n = omega arith in
-    let e : codesFrom ps 0 n ≡ codesFrom ps 0 (j + 1) ++ codesFrom ps (0 + (j + 1)) (n - (j + 1)) = ap (codesFrom ps 0) (sym s) ∙ codes-append ps 0 (j + 1) (n - (j + 1)) in
+    let e : codesFrom ps 0 n ≡ codesFrom ps 0 (j + 1) ++ codesFrom ps (0 + (j + 1)) (n - (j + 1)) = ap (codesFrom ps 0) (sym s) ∙ codes-append ps 0
+    (j + 1) (n - (j + 1)) in
     omega (arith, ap length e, length-append (codesFrom ps 0 (j + 1)) (codesFrom ps (0 + (j + 1)) (n - (j + 1))), count-next ps j)
 
 -- how many codes packets of one kind have
 pub fives-count : (ps : List ℕ) (m n : ℕ) → AllOf true ps m → n ≤ m → length (codesFrom ps 0 n) ≡ 6 * n
 fives-count ps m n h l =
     codes-each ps 6 0 n
-    (λ k i. ap (λ (x : ℕ). length (codesIn (getD ps x 0))) (zero-add k) ∙ ap length (codes-five (getD ps k 0) (h k (omega arith))) ∙ length-digits 5 6 (getD ps k 0))
+    (λ k i. ap (λ (x : ℕ). length (codesIn (getD ps x 0))) (zero-add k) ∙ ap length (codes-five (getD ps k 0) (h k (omega arith)))
+    ∙ length-digits 5 6 (getD ps k 0))
 
 pub twos-count : (ps : List ℕ) (m n : ℕ) → AllOf false ps m → n ≤ m → length (codesFrom ps 0 n) ≡ 15 * n
 twos-count ps m n h l =
     codes-each ps 15 0 n
-    (λ k i. ap (λ (x : ℕ). length (codesIn (getD ps x 0))) (zero-add k) ∙ ap length (codes-two (getD ps k 0) (h k (omega arith))) ∙ length-digits 2 15 (getD ps k 0))
+    (λ k i. ap (λ (x : ℕ). length (codesIn (getD ps x 0))) (zero-add k) ∙ ap length (codes-two (getD ps k 0) (h k (omega arith)))
+    ∙ length-digits 2 15 (getD ps k 0))
 
 pub length-four : (a b c d : ℕ) → length (bytesOfFour a b c d) ≡ 16
 length-four a b c d = refl
@@ -275,13 +280,21 @@ module _ (a : ℕ) (ps : List ℕ) (e : wellFormed a ps ≡ true) (i : ℕ) (l :
       let n = 16 * (i + 1) in
       let m : margin a ≤ 6 * spare a = bool-cases (isAmino a) (λ t. rw t (omega arith)) (λ t. rw t (omega arith)) in
       let c = codes-append ps 0 n (spare a) in
-      omega
-      (arith, block-count, count-split a ps e 0 (n + spare a) (omega arith), ap length c, length-append (codesFrom ps 0 n) (codesFrom ps (0 + n) (spare a)), codes-least ps (0 + n) (spare a))
+      omega (
+        arith,
+        block-count,
+        count-split a ps e 0 (n + spare a) (omega arith),
+        ap length c,
+        length-append (codesFrom ps 0 n)
+            (codesFrom ps (0 + n) (spare a)),
+        codes-least ps (0 + n) (spare a),
+      )
 
   -- the codes of the block are written behind those before it
   pub block-begun : (end : ℕ) (d m o : List ℕ) → length (codesFrom ps 0 (16 * i)) + length (codesFrom ps (16 * i) 16) + margin a ≤ end
       → Begun 0 (codesFrom ps 0 (16 * i)) end d m
-      → Begun (length (codesFrom ps 0 (16 * i))) (codesFrom ps (16 * i) 16) (length (codesFrom ps 0 (16 * i)) + length (codesFrom ps (16 * i) 16) + margin a) m o
+      → Begun (length (codesFrom ps 0 (16 * i))) (codesFrom ps (16 * i) 16)
+      (length (codesFrom ps 0 (16 * i)) + length (codesFrom ps (16 * i) 16) + margin a) m o
       → Begun 0 (codesFrom ps 0 (16 * (i + 1))) end d o
   block-begun end d m o h so-far here =
       rw block-next

@@ -104,7 +104,8 @@ module _ {A : Type 0} (told : Refusal → A) (number : A → ℕ) (own : (r : Re
 
 -- ---- packing and unpacking
 
-packed-order : (packets residues : ℕ) (rules : List (Rule Refusal)) → Ordered Pack.Refused packNumber rules (verdict Pack.Refused (Pack.Packed packets residues) rules)
+packed-order : (packets residues : ℕ) (rules : List (Rule Refusal)) → Ordered Pack.Refused packNumber rules
+    (verdict Pack.Refused (Pack.Packed packets residues) rules)
 packed-order packets residues rules = ordered Pack.Refused packNumber (λ r. refl) (Pack.Packed packets residues) refl rules _ refl
 
 unpacked-order : (packets : List ℕ) (rules : List (Rule Refusal)) → Ordered Unpack.Refused unpackNumber rules (unpackedBy rules packets)
@@ -121,7 +122,8 @@ module _ (alphabet : ℕ) (codes : List ℕ) where
   pack-order room at = packed-order (length (run alphabet codes)) (length codes) (packRules alphabet codes room at)
 
   -- `pack_bytes`: the same, with the room of the whole packets
-  pub pack-bytes-order : (bytes : List ℕ) (at : ℕ) → Ordered Pack.Refused packNumber (packRules alphabet codes (length bytes / 4) at) (packBytesAnswer alphabet codes bytes at)
+  pub pack-bytes-order : (bytes : List ℕ) (at : ℕ) → Ordered Pack.Refused packNumber (packRules alphabet codes (length bytes / 4) at)
+      (packBytesAnswer alphabet codes bytes at)
   pack-bytes-order bytes at = pack-order (length bytes / 4) at
 
   -- `gull_pack`: the same, then 13 for the results
@@ -132,7 +134,8 @@ module _ (alphabet : ℕ) (codes : List ℕ) where
 
 module _ (alphabet : ℕ) where
   -- `unpack`: 22, 3, 17, 13
-  pub unpack-order : (packets : List ℕ) (room : ℕ) → Ordered Unpack.Refused unpackNumber (unpackRules alphabet packets room) (unpackAnswer alphabet packets room)
+  pub unpack-order : (packets : List ℕ) (room : ℕ) → Ordered Unpack.Refused unpackNumber (unpackRules alphabet packets room)
+      (unpackAnswer alphabet packets room)
   unfolding unpackAnswer
   unpack-order packets room = unpacked-order packets (unpackRules alphabet packets room)
 
@@ -154,7 +157,8 @@ module _ (alphabet : ℕ) where
 pub read-index-order : (index : List ℕ) → Ordered Index.Refused indexNumber (readRules index) (indexAnswer index)
 read-index-order index = ordered Index.Refused indexNumber (λ r. refl) (Index.Read (indexOf index)) refl (readRules index) _ refl
 
-volume-order : (index : List ℕ) (rules : List (Rule Refusal)) (answer : VolumeAnswer) → answer ≡ verdict Volume.Refused (Volume.Passed (volumeRecord index)) rules
+volume-order : (index : List ℕ) (rules : List (Rule Refusal)) (answer : VolumeAnswer) → answer ≡ verdict Volume.Refused
+    (Volume.Passed (volumeRecord index)) rules
     → Ordered Volume.Refused volumeNumber rules answer
 volume-order index = ordered Volume.Refused volumeNumber (λ r. refl) (Volume.Passed (volumeRecord index)) refl
 
@@ -171,7 +175,8 @@ module _ (index sequence header : List ℕ) where
   gull-check-volume-order room = volume-order index (consoleVolumeRules index sequence header room) _ refl
 
   -- the number that a listing shows: 22 for a file over 16,384 bytes, then as `check_volume`
-  pub listed-order : Ordered Volume.Refused volumeNumber (listingSizeRules index sequence header ++ volumeRules index sequence header) (listedAnswer index sequence header)
+  pub listed-order : Ordered Volume.Refused volumeNumber (listingSizeRules index sequence header ++ volumeRules index sequence header)
+      (listedAnswer index sequence header)
   unfolding listedAnswer volumeAnswer
   listed-order =
       volume-order index (listingSizeRules index sequence header ++ volumeRules index sequence header) _
@@ -226,10 +231,12 @@ other-cause r n e = never (sym n ∙ ap (λ (x : Checked). eqb (checkedNumber x)
 
 -- the rules of a record's element give 21 only by its nesting
 nesting-deep : (size : ℕ) (x : ElementAnswer) (shape : Bool)
-    → checkedBy (ask (isRead x) (refusalIn x) ∷ ask (endsAt size x) R.BadHeader ∷ ask shape R.BadHeader ∷ []) ≡ Check.Refused R.TooDeep → x ≡ Element.Refused R.TooDeep
+    → checkedBy (ask (isRead x) (refusalIn x) ∷ ask (endsAt size x) R.BadHeader ∷ ask shape R.BadHeader ∷ []) ≡ Check.Refused R.TooDeep → x
+    ≡ Element.Refused R.TooDeep
 nesting-deep size (Element.End n) shape e =
     absurd (cond-elim (λ (y : Checked). y ≡ Check.Refused R.TooDeep → ⊥) (eqb n size)
-    (λ _. cond-elim (λ (y : Checked). y ≡ Check.Refused R.TooDeep → ⊥) shape (λ _ f. let z : _≡_ {A = ℕ} 0 1 = cc in omega arith) (λ _ f. other-cause R.BadHeader refl f))
+    (λ _. cond-elim (λ (y : Checked). y ≡ Check.Refused R.TooDeep → ⊥) shape (λ _ f. let z : _≡_ {A = ℕ} 0 1 = cc in omega arith)
+    (λ _ f. other-cause R.BadHeader refl f))
     (λ _ f. other-cause R.BadHeader refl f) e)
 nesting-deep size (Element.Refused r) shape e = let q : r ≡ R.TooDeep = cc in ap Element.Refused q
 
@@ -254,7 +261,8 @@ module _ (header : List ℕ) (start end : ℕ) where
               leb-true end (length header) (c .0),
               deep-exact 16 s start .0 (nesting-deep (length s) (nestingAt s start) (isRead (shapeAt s start)) (c .1)),
             ),
-        λ w. sym (record-element header start end (w .0) (w .1) (Check.Refused R.TooDeep) (w .2) (nest-refused s start R.TooDeep (deep-exact 16 s start .1 (w .3)))),
+        λ w. sym (record-element header start end (w .0) (w .1) (Check.Refused R.TooDeep) (w .2)
+            (nest-refused s start R.TooDeep (deep-exact 16 s start .1 (w .3)))),
       )
 
   -- `first_title`: the same
@@ -281,14 +289,18 @@ module _ (header : List ℕ) (start end : ℕ) where
             ∙ ap (λ (n : ℕ). verdict told (found x) (more n)) (w .2)
             ∙ sym (passed-first (recordRules header start end) (more count) Check.Passed e refl told (found x)),
       )
-  record-then found told none k count answer (Check.Refused r) e refuse give =
-      (none, sym (refuse r (sym e)) ∙ sym (refused-first (recordRules header start end) (ask (ltb k count) R.NoSuchSequence ∷ []) (Check.Refused r) r e refl told (found none)))
+  record-then found told none k count answer (Check.Refused r) e refuse give = (
+    none,
+    sym (refuse r (sym e)) ∙ sym (refused-first (recordRules header start end) (ask (ltb k count) R.NoSuchSequence ∷ [])
+        (Check.Refused r) r e refl told (found none)),
+  )
 
   -- `title`: the same as `check_record`, then 10
   pub title-order : (given : ℕ) → Ordered Title.Refused titleNumber (stepRules header start end given) (titleOf header start end given)
   title-order given =
       let v =
-      record-then Title.Title Title.Refused (span 0 0) given (length (titlesOf (take end header) start)) (titleOf header start end given) (checkRecord header start end) refl
+      record-then Title.Title Title.Refused (span 0 0) given (length (titlesOf (take end header) start)) (titleOf header start end given)
+      (checkRecord header start end) refl
       (title-refused header start end given)
       (λ good. (titlesWritten good, title-is header start end good given, ap length (sym (titles-are header start end good)))) in
       ordered Title.Refused titleNumber (λ r. refl) (Title.Title (v .0)) refl (stepRules header start end given) (titleOf header start end given) (v .1)
@@ -299,13 +311,16 @@ module _ (header : List ℕ) (start end : ℕ) where
   step-order given = title-order given
 
   -- `find_identifier` refuses as a walker step does
-  pub identifier-order : (number : ℕ) → Ordered Identifier.Refused identifierNumber (identifierRules header start end number) (identifierOf header start end number)
+  pub identifier-order : (number : ℕ) → Ordered Identifier.Refused identifierNumber (identifierRules header start end number)
+      (identifierOf header start end number)
   identifier-order number =
       let v =
-      record-then Identifier.Found Identifier.Refused (I.Other 0) number (length (identifiersOf (take end header) start)) (identifierOf header start end number) (checkRecord header start end) refl
+      record-then Identifier.Found Identifier.Refused (I.Other 0) number (length (identifiersOf (take end header) start))
+      (identifierOf header start end number) (checkRecord header start end) refl
       (identifier-refused header start end number)
       (λ good. (identifiersWritten good, identifier-is header start end good number, sym (identifiers-count header start end good))) in
-      ordered Identifier.Refused identifierNumber (λ r. refl) (Identifier.Found (v .0)) refl (identifierRules header start end number) (identifierOf header start end number) (v .1)
+      ordered Identifier.Refused identifierNumber (λ r. refl) (Identifier.Found (v .0)) refl (identifierRules header start end number)
+      (identifierOf header start end number) (v .1)
 
 -- ---- labels
 
@@ -344,13 +359,15 @@ module _ (index header : List ℕ) (number : ℕ) where
       let o : AllHold own = hold-second (readRules index) (ask (ltb number (sequences index)) R.NoSuchSequence ∷ own) (h .1) .1 in
       let rules = elementRules (take high header) low in
       let c : checkedBy rules ≡ checkRecord header low high =
-      record-element header low high (leb-true (length header) 2147483647 (h .0)) (low-high (lowOffset index number) (highOffset index number) (o .0) (o .1 .0)) (checkedBy rules)
+      record-element header low high (leb-true (length header) 2147483647 (h .0))
+      (low-high (lowOffset index number) (highOffset index number) (o .0) (o .1 .0)) (checkedBy rules)
       (high-size (highOffset index number) (length header) (o .1 .1 .0)) refl in
       ap labelled (sym c) ∙ verdict-handed Check.Refused Label.Refused labelled (λ r. refl) Check.Passed rules
 
   -- the rules before the record, as one list
   pub label-offsets : labelOf index header number
-      ≡ verdict Label.Refused (recordLabel (titleLength index) (firstOf header (toNat (lowOffset index number)) (toNat (highOffset index number)))) (labelOffsetRules index header number)
+      ≡ verdict Label.Refused (recordLabel (titleLength index) (firstOf header (toNat (lowOffset index number)) (toNat (highOffset index number))))
+      (labelOffsetRules index header number)
   unfolding labelOf offsetsLabel
   label-offsets =
       let x = recordLabel (titleLength index) (firstOf header low high) in
@@ -364,7 +381,9 @@ module _ (index header : List ℕ) (number : ℕ) where
   label-order =
       let before = labelOffsetRules index header number in
       let rules = elementRules (take high header) low in
-      ordered Label.Refused labelNumber (λ r. refl) (labelled Check.Passed) (label-zero (titleLength index) titles) (labelRules index header number) (labelOf index header number)
+      ordered Label.Refused labelNumber (λ r. refl) (labelled Check.Passed) (label-zero (titleLength index) titles) (labelRules index header number)
+      (labelOf index header number)
       (label-offsets
-      ∙ verdict-same Label.Refused (recordLabel (titleLength index) (firstOf header low high)) (verdict Label.Refused (labelled Check.Passed) rules) before record-behind
+      ∙ verdict-same Label.Refused (recordLabel (titleLength index) (firstOf header low high))
+      (verdict Label.Refused (labelled Check.Passed) rules) before record-behind
       ∙ sym (verdict-append Label.Refused (labelled Check.Passed) before rules))

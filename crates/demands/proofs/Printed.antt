@@ -19,7 +19,7 @@ use Rattle.volume.specs.Volume.{volumeRules}
 use Rattle.sequence.specs.Sequence.{decodeRules}
 use Rattle.listing.specs.Listing.{listingSizeRules}
 use Rattle.dsqdata.specs.Header.{countOf}
-use Rattle.dsqdata.specs.Check.{rulesTo, sizeRules, startRules, tagRules, fileRules, headerRules, countRules, bodyRules, layoutRules, endsRules, rulesOfRun, runRules, rulesOfRecord, recordRules, statedRules, totalRules, behindRuns, restRules, contentRules, setRules}
+use Rattle.dsqdata.specs.Check.{rulesTo, sizeRules, startRules, tagRules, fileRules, headerRules, countRules, bodyRules, layoutRules, endsRules, rulesOfRun, setRunRules, rulesOfRecord, recordRules, statedRules, totalRules, behindRuns, restRules, contentRules, setRules}
 use Rattle.dsqdata.specs.Lookup.{partRules, lookupRules}
 use Rattle.dsqdata.specs.declared.SetRecord.{SetRecord}
 use Rattle.elements.specs.declared.ElementAnswer.{ElementAnswer}
@@ -117,7 +117,7 @@ module _ (index metadata sequence : List ℕ) where
   unfolding endsRules
   ends-numbers table n size = refl
 
-  run-numbers : numbersOf (runRules index sequence) ≡ replicate (countOf index) 17
+  run-numbers : numbersOf (setRunRules index sequence) ≡ replicate (countOf index) 17
   unfolding rulesOfRun
   run-numbers = numbers-each _ 17 (λ k. refl) (countOf index)
 

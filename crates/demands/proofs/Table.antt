@@ -9,5 +9,6 @@ use Rattle.elements.specs.Parts.{integerAllowed, integerPart, integerAt}
 use Rattle.demands.specs.Cases.{AllRight, table}
 
 pub table-right : AllRight table
-unfolding digits value unsignedAt baseAt isTable entryWidth entryCount correctionOf correctionAt entryFits plain isTwoBit sizeOf filled packetOf later run integerAt integerPart integerAllowed
+unfolding digits value unsignedAt baseAt isTable entryWidth entryCount correctionOf correctionAt entryFits plain isTwoBit sizeOf filled packetOf
+    later run integerAt integerPart integerAllowed
 table-right = (refl, (refl, (refl, (refl, (refl, (refl, (refl, (refl, (refl, (refl, ((refl, refl), ((refl, refl), (refl, (refl, tt))))))))))))))

@@ -14,7 +14,7 @@ use Rattle.packets.specs.Ends.{lastPlace, between, MakesAfter, Makes}
 use Rattle.packets.proofs.Ends.{ends-unique, ends-same}
 use Rattle.dsqdata.specs.Header.{alphabetOf, countOf, packetsIn, bodyOf}
 use Rattle.dsqdata.specs.Ends.{packetTable, endBefore, packetEnds, runAt}
-use Rattle.dsqdata.specs.Check.{packetEndsRules, rulesOfRun, runRules, otherRules, setCheck, setNumber}
+use Rattle.dsqdata.specs.Check.{packetEndsRules, rulesOfRun, setRunRules, otherRules, setCheck, setNumber}
 use Rattle.dsqdata.specs.Rules.{EndsRule, OtherRules}
 use Rattle.dsqdata.proofs.EachRule.{rules-at, rules-all}
 use Rattle.dsqdata.proofs.Bodies.{body-length}
@@ -65,7 +65,7 @@ module _ (a : ℕ) (body : List ℕ) where
 
 module _ (i s : List ℕ) where
   -- The rules of the packet ends and of the runs together say that the packet ends make the body well formed.
-  pub rules-make : AllHold (packetEndsRules i s) → AllHold (runRules i s) → Makes (alphabetOf i) (bodyOf s) (packetEnds i)
+  pub rules-make : AllHold (packetEndsRules i s) → AllHold (setRunRules i s) → Makes (alphabetOf i) (bodyOf s) (packetEnds i)
   unfolding runAt
   rules-make e b =
       let r = ends-rule i packetTable (countOf i) (packetsIn s) e in
@@ -77,7 +77,7 @@ module _ (i s : List ℕ) where
         last = rw (body-length s) (r .last);
       }))
 
-  pub make-rules : Makes (alphabetOf i) (bodyOf s) (packetEnds i) → AllHold (packetEndsRules i s) × AllHold (runRules i s)
+  pub make-rules : Makes (alphabetOf i) (bodyOf s) (packetEnds i) → AllHold (packetEndsRules i s) × AllHold (setRunRules i s)
   unfolding runAt
   make-rules h =
       let b = makes-between (alphabetOf i) (bodyOf s) (endBefore i packetTable) (countOf i) (rw (end-zero i packetTable 0 refl) h) in (

@@ -29,7 +29,7 @@ use Rattle.dsqdata.specs.declared.ends.Part.the-variants as P
 use Rattle.dsqdata.specs.Header.{alphabetOf, flagsOf, countOf, recordOf, bytesAfterHeader}
 use Rattle.dsqdata.specs.Ends.{metadataTable, packetTable}
 use Rattle.dsqdata.specs.Check.{sizeRules, startRules, tagRules, fileRules, headerRules, countRules, bodyRules, layoutRules}
-use Rattle.dsqdata.specs.Check.{endsRules, metadataEndsRules, packetEndsRules, runRules, recordRules, statedRules, totalRules, behindRuns, restRules}
+use Rattle.dsqdata.specs.Check.{endsRules, metadataEndsRules, packetEndsRules, setRunRules, recordRules, statedRules, totalRules, behindRuns, restRules}
 use Rattle.dsqdata.specs.Check.{contentRules, setRules, setCheck}
 use Rattle.dsqdata.specs.Scans.{runsTo, recordsTo}
 use Rattle.dsqdata.specs.Lookup.{partRules, partOf, foundAt, lookupRules, lookupOf}
@@ -133,20 +133,20 @@ module _ (i m s : List ℕ) {a : Checked} (ea : a ≡ checkedBy (metadataEndsRul
   pub metadata-ends-stopped : {r : Refusal} → a ≡ C.Refused r → C.Refused r ≡ checkedBy (contentRules i m s)
   unfolding contentRules
   metadata-ends-stopped p =
-      stopped C.Refused C.Passed (metadataEndsRules i m) ea (packetEndsRules i s ++ (runRules i s ++ restRules i m s)) p
+      stopped C.Refused C.Passed (metadataEndsRules i m) ea (packetEndsRules i s ++ (setRunRules i s ++ restRules i m s)) p
 
   module _ (pa : a ≡ C.Passed) {b : Checked} (eb : b ≡ checkedBy (packetEndsRules i s)) where
-    behind-metadata-ends : {d : Checked} → d ≡ checkedBy (packetEndsRules i s ++ (runRules i s ++ restRules i m s)) → d ≡ checkedBy (contentRules i m s)
+    behind-metadata-ends : {d : Checked} → d ≡ checkedBy (packetEndsRules i s ++ (setRunRules i s ++ restRules i m s)) → d ≡ checkedBy (contentRules i m s)
     unfolding contentRules
     behind-metadata-ends h =
-        passed C.Refused C.Passed (metadataEndsRules i m) ea (packetEndsRules i s ++ (runRules i s ++ restRules i m s)) pa h
+        passed C.Refused C.Passed (metadataEndsRules i m) ea (packetEndsRules i s ++ (setRunRules i s ++ restRules i m s)) pa h
 
     pub packet-ends-stopped : {r : Refusal} → b ≡ C.Refused r → C.Refused r ≡ checkedBy (contentRules i m s)
-    packet-ends-stopped p = behind-metadata-ends (stopped C.Refused C.Passed (packetEndsRules i s) eb (runRules i s ++ restRules i m s) p)
+    packet-ends-stopped p = behind-metadata-ends (stopped C.Refused C.Passed (packetEndsRules i s) eb (setRunRules i s ++ restRules i m s) p)
 
     module _ (pb : b ≡ C.Passed) {set : SetRecord} (q : set ≡ recordOf i) {c : Runs} (ec : c ≡ runsTo i s (set .alphabet) (set .count)) where
-      behind-ends : {d : Checked} → d ≡ checkedBy (runRules i s ++ restRules i m s) → d ≡ checkedBy (contentRules i m s)
-      behind-ends h = behind-metadata-ends (passed C.Refused C.Passed (packetEndsRules i s) eb (runRules i s ++ restRules i m s) pb h)
+      behind-ends : {d : Checked} → d ≡ checkedBy (setRunRules i s ++ restRules i m s) → d ≡ checkedBy (contentRules i m s)
+      behind-ends h = behind-metadata-ends (passed C.Refused C.Passed (packetEndsRules i s) eb (setRunRules i s ++ restRules i m s) pb h)
 
       runs-here : c ≡ runsTo i s (alphabetOf i) (countOf i)
       runs-here = ec ∙ ap (λ (x : SetRecord). runsTo i s (x .alphabet) (x .count)) q
@@ -157,7 +157,7 @@ module _ (i m s : List ℕ) {a : Checked} (ea : a ≡ checkedBy (metadataEndsRul
       pub content-passed : {x y : ℕ} → c ≡ U.Totals x y → {d : Checked} → d ≡ checkedBy (behindRuns i m x y) → d ≡ checkedBy (contentRules i m s)
       content-passed p h =
           let f = runs-totals i s (alphabetOf i) (countOf i) c runs-here _ _ p in
-          behind-ends (h ∙ rest-is i m s _ _ (f .1) (f .2) ∙ sym (hold-then C.Refused C.Passed (runRules i s) (restRules i m s) (f .0)))
+          behind-ends (h ∙ rest-is i m s _ _ (f .1) (f .2) ∙ sym (hold-then C.Refused C.Passed (setRunRules i s) (restRules i m s) (f .0)))
 
 -- behind the runs
 module _ (i m : List ℕ) {set : SetRecord} (q : set ≡ recordOf i) (residues longest : ℕ) {c : Records} (e : c ≡ recordsTo i m (set .count)) where

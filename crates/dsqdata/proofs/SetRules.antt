@@ -29,7 +29,7 @@ use Rattle.dsqdata.specs.Header.{alphabetOf, countOf, recordOf, bytesAft
 use Rattle.dsqdata.specs.Ends.{metadataTable, packetTable, runAt, metadataStart}
 use Rattle.dsqdata.specs.Records.{textsAt, nameAt, accessionAt, descriptionAt}
 use Rattle.dsqdata.specs.Check.{sizeRules, startRules, tagRules, fileRules, headerRules, countRules, bodyRules, layoutRules, metadataEndsRules}
-use Rattle.dsqdata.specs.Check.{packetEndsRules, rulesOfRun, runRules, rulesOfRecord, recordRules, statedRules, totalRules, behindRuns}
+use Rattle.dsqdata.specs.Check.{packetEndsRules, rulesOfRun, setRunRules, rulesOfRecord, recordRules, statedRules, totalRules, behindRuns}
 use Rattle.dsqdata.specs.Check.{restRules, contentRules, setRules, otherRules, setCheck, setNumber, setValues, setRecordValues}
 use Rattle.dsqdata.specs.Rules.{OtherRules, SetRules}
 use Rattle.dsqdata.proofs.EachRule.{rules-at, rules-all}
@@ -177,25 +177,25 @@ module _ (i m s : List ℕ) where
 
 -- The list of all rules holds exactly where the other rules, those of the packet ends and those of the runs do.
 module _ (i m s : List ℕ) where
-  pub parts-hold : AllHold (setRules i m s) → AllHold (otherRules i m s) × AllHold (packetEndsRules i s) × AllHold (runRules i s)
+  pub parts-hold : AllHold (setRules i m s) → AllHold (otherRules i m s) × AllHold (packetEndsRules i s) × AllHold (setRunRules i s)
   unfolding setRules contentRules otherRules
   parts-hold h =
       let f = hold-first (fileRules i m s) (layoutRules i s ++ contentRules i m s) h in
       let g = hold-second (fileRules i m s) (layoutRules i s ++ contentRules i m s) h in
       let l = hold-first (layoutRules i s) (contentRules i m s) g in
       let c = hold-second (layoutRules i s) (contentRules i m s) g in
-      let e = hold-first (metadataEndsRules i m) (packetEndsRules i s ++ (runRules i s ++ restRules i m s)) c in
-      let d = hold-second (metadataEndsRules i m) (packetEndsRules i s ++ (runRules i s ++ restRules i m s)) c in
-      let p = hold-first (packetEndsRules i s) (runRules i s ++ restRules i m s) d in
-      let b = hold-second (packetEndsRules i s) (runRules i s ++ restRules i m s) d in (
+      let e = hold-first (metadataEndsRules i m) (packetEndsRules i s ++ (setRunRules i s ++ restRules i m s)) c in
+      let d = hold-second (metadataEndsRules i m) (packetEndsRules i s ++ (setRunRules i s ++ restRules i m s)) c in
+      let p = hold-first (packetEndsRules i s) (setRunRules i s ++ restRules i m s) d in
+      let b = hold-second (packetEndsRules i s) (setRunRules i s ++ restRules i m s) d in (
         hold-append (fileRules i m s) (layoutRules i s ++ (metadataEndsRules i m ++ restRules i m s)) f
             (hold-append (layoutRules i s) (metadataEndsRules i m ++ restRules i m s) l
-            (hold-append (metadataEndsRules i m) (restRules i m s) e (hold-second (runRules i s) (restRules i m s) b))),
+            (hold-append (metadataEndsRules i m) (restRules i m s) e (hold-second (setRunRules i s) (restRules i m s) b))),
         p,
-        hold-first (runRules i s) (restRules i m s) b,
+        hold-first (setRunRules i s) (restRules i m s) b,
       )
 
-  pub hold-parts : AllHold (otherRules i m s) → AllHold (packetEndsRules i s) → AllHold (runRules i s) → AllHold (setRules i m s)
+  pub hold-parts : AllHold (otherRules i m s) → AllHold (packetEndsRules i s) → AllHold (setRunRules i s) → AllHold (setRules i m s)
   unfolding setRules contentRules otherRules
   hold-parts h p b =
       let f = hold-first (fileRules i m s) (layoutRules i s ++ (metadataEndsRules i m ++ restRules i m s)) h in
@@ -204,9 +204,9 @@ module _ (i m s : List ℕ) where
       let c = hold-second (layoutRules i s) (metadataEndsRules i m ++ restRules i m s) g in
       hold-append (fileRules i m s) (layoutRules i s ++ contentRules i m s) f
       (hold-append (layoutRules i s) (contentRules i m s) l
-      (hold-append (metadataEndsRules i m) (packetEndsRules i s ++ (runRules i s ++ restRules i m s)) (hold-first (metadataEndsRules i m) (restRules i m s) c)
-      (hold-append (packetEndsRules i s) (runRules i s ++ restRules i m s) p
-      (hold-append (runRules i s) (restRules i m s) b (hold-second (metadataEndsRules i m) (restRules i m s) c)))))
+      (hold-append (metadataEndsRules i m) (packetEndsRules i s ++ (setRunRules i s ++ restRules i m s)) (hold-first (metadataEndsRules i m) (restRules i m s) c)
+      (hold-append (packetEndsRules i s) (setRunRules i s ++ restRules i m s) p
+      (hold-append (setRunRules i s) (restRules i m s) b (hold-second (metadataEndsRules i m) (restRules i m s) c)))))
 
   -- The check passes where all rules hold, and its answer is the set's record.
   pub passed-all : (x : SetRecord) → setCheck i m s ≡ Passed x → AllHold (setRules i m s) × (recordOf i ≡ x)

@@ -110,8 +110,8 @@ rulesOfRun alphabet packets = ask (wellFormed alphabet packets) BadRun ∷ []
 abbrev pub runRulesTo : List ℕ → List ℕ → ℕ → ℕ → List (Rule Refusal)
 runRulesTo index sequence alphabet n = rulesTo (λ k. rulesOfRun alphabet (runAt index sequence k)) n
 
-abbrev pub runRules : List ℕ → List ℕ → List (Rule Refusal)
-runRules index sequence = runRulesTo index sequence (alphabetOf index) (countOf index)
+abbrev pub setRunRules : List ℕ → List ℕ → List (Rule Refusal)
+setRunRules index sequence = runRulesTo index sequence (alphabetOf index) (countOf index)
 
 -- What the set check asks of the metadata of one sequence: it is a metadata record (19).
 unfoldable pub rulesOfRecord : List ℕ → List ℕ → ℕ → List (Rule Refusal)
@@ -157,7 +157,7 @@ unfoldable pub contentRules : List ℕ → List ℕ → List ℕ → List (Rule 
 contentRules index metadata sequence =
     metadataEndsRules index metadata
     ++ (packetEndsRules index sequence
-    ++ (runRules index sequence
+    ++ (setRunRules index sequence
     ++ restRules index metadata sequence))
 
 -- All rules of the set check.

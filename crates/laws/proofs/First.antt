@@ -53,7 +53,8 @@ verdict-handed {R} {A} {B} refused told f h passed (q ∷ rules) = go (q .holds)
     go false e = h (q .refusal)
 
 -- What a check answers where it passes counts only where every rule holds.
-pub verdict-same : {R A : Type 0} (refused : R → A) (x y : A) (rules : List (Rule R)) → (AllHold rules → x ≡ y) → verdict refused x rules ≡ verdict refused y rules
+pub verdict-same : {R A : Type 0} (refused : R → A) (x y : A) (rules : List (Rule R)) → (AllHold rules → x ≡ y) → verdict refused x rules
+    ≡ verdict refused y rules
 verdict-same refused x y [] h = h tt
 verdict-same {R} {A} refused x y (q ∷ rules) h = go (q .holds) refl (verdict-same refused x y rules)
   where

@@ -47,7 +47,8 @@ module _ {ℓ} {A : Type ℓ} where
       ap (λ (l : List A). take (place + length xs) l) e ∙ take-at (take place old ++ xs) (drop (place + length xs) old) (place + length xs) t in
       let b : drop (place + length xs + length ys) (writtenAt place xs old) ≡ drop (place + length (xs ++ ys)) old =
       sym (drop-drop (length ys) (place + length xs) (writtenAt place xs old))
-      ∙ ap (λ (l : List A). drop (length ys) l) (ap (λ (l : List A). drop (place + length xs) l) e ∙ drop-at (take place old ++ xs) (drop (place + length xs) old) (place + length xs) t)
+      ∙ ap (λ (l : List A). drop (length ys) l) (ap (λ (l : List A). drop (place + length xs) l) e ∙ drop-at (take place old ++ xs)
+      (drop (place + length xs) old) (place + length xs) t)
       ∙ drop-drop (length ys) (place + length xs) old
       ∙ ap (λ (m : ℕ). drop m old) (add-assoc place (length xs) (length ys) ∙ ap (λ (m : ℕ). place + m) (sym (length-append xs ys))) in
       rw (a, b) (simp append-assoc)
@@ -59,7 +60,8 @@ module _ {ℓ} {A : Type ℓ} where
       let t : length (take place old) ≡ place = rw length-take (omega arith) in
       let f : length (take place old ++ zs) ≡ place + length zs = simp (length-append, length-take) (omega arith) in
       let m : place + length zs + (length ys - length zs) ≡ place + length ys = omega arith in
-      let e : writtenAt place zs old ≡ take place old ++ (zs ++ drop (place + length zs) old) = append-assoc (take place old) zs (drop (place + length zs) old) in
+      let e : writtenAt place zs old ≡ take place old ++ (zs ++ drop (place + length zs) old) = append-assoc (take place old) zs
+      (drop (place + length zs) old) in
       let a : take place (writtenAt place zs old) ≡ take place old =
       ap (λ (l : List A). take place l) e ∙ take-at (take place old) (zs ++ drop (place + length zs) old) place t in
       let b : drop (place + length ys) (writtenAt place zs old) ≡ drop (place + length ys) old =

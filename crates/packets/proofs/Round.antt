@@ -42,7 +42,8 @@ unpacked-nil = refl
 -- n is at least the number of residues.
 module _ (a : ℕ) (P : List ℕ → List ℕ → Type 0)
     (ends : (cs : List ℕ) → validCodes a cs ≡ true → length cs ≤ size a cs → P cs (packet a cs ∷ []))
-    (goes : (cs : List ℕ) → validCodes a cs ≡ true → size a cs < length cs → P (drop (size a cs) cs) (run a (drop (size a cs) cs)) → P cs (packet a cs ∷ run a (drop (size a cs) cs))) where
+    (goes : (cs : List ℕ) → validCodes a cs ≡ true → size a cs < length cs → P (drop (size a cs) cs) (run a (drop (size a cs) cs)) → P cs
+    (packet a cs ∷ run a (drop (size a cs) cs))) where
   by-packets : (n : ℕ) (cs : List ℕ) → length cs ≤ n → validCodes a cs ≡ true → P cs (run a cs)
   by-packets zero cs l v = let h : length cs ≤ size a cs = omega arith in rw (run-last a cs h) (ends cs v h)
   by-packets (suc n) cs l v =

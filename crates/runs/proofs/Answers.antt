@@ -82,7 +82,8 @@ module _ (a : ℕ) (codes packets : List ℕ) (place : ℕ) where
   unfolding packetsAfter
   packets-kept r e = rw e
 
-  pub packets-written : (n l : ℕ) → packAnswer a codes (length packets) place ≡ Pack.Packed n l → packetsAfter a codes packets place ≡ writtenAt place (run a codes) packets
+  pub packets-written : (n l : ℕ) → packAnswer a codes (length packets) place ≡ Pack.Packed n l → packetsAfter a codes packets place
+      ≡ writtenAt place (run a codes) packets
   unfolding packetsAfter
   packets-written n l e = rw e
 

@@ -23,7 +23,8 @@ rises (suc k) (suc n) h = let g : k < n = omega arith in ltZ-yes (lt→ltb k n g
 
 middle : (k n : ℕ) (ps R t : List ℕ) → k ≤ length ps → length R ≡ n → drop k ps ≡ R ++ t → slice k (k + n) ps ≡ R
 middle k n ps R t h l e =
-    ap (λ (x : List ℕ). drop k x) (take-add k n ps) ∙ (drop-at (take k ps) (take n (drop k ps)) k (length-take-le k ps h) ∙ (ap (λ (x : List ℕ). take n x) e ∙ take-at R t n l))
+    ap (λ (x : List ℕ). drop k x) (take-add k n ps) ∙ (drop-at (take k ps) (take n (drop k ps)) k (length-take-le k ps h) ∙
+    (ap (λ (x : List ℕ). take n x) e ∙ take-at R t n l))
 
 makes-from : (a : ℕ) (ps : List ℕ) (k : ℕ) (items : List Item) → AllValidIn a items → k ≤ length ps → drop k ps ≡ body items
     → MakesAfter a ps (lastPlace k) (runEndsFrom k items)

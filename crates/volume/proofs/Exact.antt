@@ -25,7 +25,7 @@ use Rattle.answers.proofs.Numbers.{zero-passes}
 use Rattle.volume.specs.declared.VolumeRecord.{VolumeRecord}
 use Rattle.volume.specs.declared.VolumeAnswer.the-variants.{Passed, Refused}
 use Rattle.volume.specs.Index.{statedType, volumeType, isType, isProtein, titleEnd, timestampEnd, timestampStart, statedSequences}
-use Rattle.volume.specs.Index.{sequences, mostSequences, residues, longest, tableSize}
+use Rattle.volume.specs.Index.{sequences, mostSequences, residueCount, longest, tableSize}
 use Rattle.volume.specs.Index.{headerTable, sequenceTable, ambiguityTable, tablesEnd, indexRules}
 use Rattle.volume.specs.Tables.{notBelow, above, ambiguityBetween, sequenceOffset, ambiguityOffset, proteinLength, dnaLength}
 use Rattle.volume.specs.Tables.{headerOffsetRules, proteinOffsetRules, dnaOffsetRules, sequenceOffsetRules, offsetRules}
@@ -174,7 +174,7 @@ headers-test index header h =
 
 module _ (index : List ℕ) (f : ℕ → ℕ) where
   totals-of : FieldsHold index → TotalTests index f → TotalsHold index f
-  unfolding residues longest
+  unfolding residueCount longest
   totals-of g t =
       record {
         sum = ap pos (eqb-true _ _ (t .sum)) ∙ sym (states-itself _ (not-negative-test _ (g .count)));
@@ -182,7 +182,7 @@ module _ (index : List ℕ) (f : ℕ → ℕ) where
       }
 
   totals-test : TotalsHold index f → TotalTests index f
-  unfolding residues longest
+  unfolding residueCount longest
   totals-test h = record { sum = eq-eqb _ _ (ap toNat (h .sum)); largest = eq-eqb _ _ (ap toNat (h .largest)) }
 
 -- ---- protein

@@ -176,7 +176,7 @@ module _ (index sequence : List ℕ) where
 
 module _ (index : List ℕ) (lengthOf : ℕ → ℕ) where
   pub record TotalTests : Type 0 where
-    pub sum : eqb (sumTo lengthOf (I.sequences index)) (I.residues index) ≡ true
+    pub sum : eqb (sumTo lengthOf (I.sequences index)) (I.residueCount index) ≡ true
     pub largest : eqb (largestTo lengthOf (I.sequences index)) (I.longest index) ≡ true
 
   pub total-tests : AllHold (T.totalsOf index lengthOf) → TotalTests

@@ -16,7 +16,7 @@ use Rattle.answers.specs.Limits.{bytesFit}
 use Rattle.answers.specs.declared.Refusal.{Refusal}
 use Rattle.volume.specs.declared.Index.{Index}
 use Rattle.volume.specs.declared.IndexAnswer.the-variants.{Read, Refused}
-use Rattle.volume.specs.Index.{volumeType, titleLength, titleEnd, timestampLength, timestampEnd, sequences, residues, longest}
+use Rattle.volume.specs.Index.{volumeType, titleLength, titleEnd, timestampLength, timestampEnd, sequences, residueCount, longest}
 use Rattle.volume.specs.Index.{headerTable, sequenceTable, ambiguityTable, indexRules, indexOf, readRules, indexAnswer}
 
 not-refused : (x : Index) (r : Refusal) → Refused r ≡ Read x → ⊥
@@ -119,11 +119,11 @@ pub numbers-read : (index : List ℕ) (kind title timestamp n count long : ℕ) 
       «ambiguity_table» = header + size + size;
     }
     (indexOf index)
-unfolding indexOf timestampLength sequences residues longest
+unfolding indexOf timestampLength sequences residueCount longest
 numbers-read index kind title timestamp n count long a b c d e f =
     let g : timestamp ≡ timestampLength index = rw b at c in
     let h : n ≡ sequences index = rw (b, g) at d in
-    let i : count ≡ residues index = rw (b, g) at e in
+    let i : count ≡ residueCount index = rw (b, g) at e in
     let j : long ≡ longest index = rw (b, g) at f in
     rw (a, b, g, h, i, j)
 

@@ -82,8 +82,8 @@ mostSequences = 134217728
 abbrev pub statedResidues : List ℕ → ℤ
 statedResidues index = signedAt little 8 index (timestampEnd index + 4)
 
-unfoldable pub residues : List ℕ → ℕ
-residues index = toNat (statedResidues index)
+unfoldable pub residueCount : List ℕ → ℕ
+residueCount index = toNat (statedResidues index)
 
 -- The longest length.
 abbrev pub statedLongest : List ℕ → ℤ
@@ -165,7 +165,7 @@ indexOf index =
       «title_length» = titleLength index;
       «timestamp_length» = timestampLength index;
       sequences = sequences index;
-      residues = residues index;
+      residues = residueCount index;
       longest = longest index;
       «header_table» = headerTable index;
       «sequence_table» = sequenceTable index;

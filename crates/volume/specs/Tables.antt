@@ -13,7 +13,7 @@ use Rattle.laws.specs.Signed.{toNat, eqZ}
 use Rattle.fields.specs.Number.{big, signedAt}
 use Rattle.answers.specs.declared.Refusal.{Refusal}
 use Rattle.answers.specs.declared.Refusal.the-variants.{BadOffsets, BadSeparator, WrongTotals}
-use Rattle.volume.specs.Index.{isProtein, sequences, residues, longest, headerTable, sequenceTable, ambiguityTable}
+use Rattle.volume.specs.Index.{isProtein, sequences, residueCount, longest, headerTable, sequenceTable, ambiguityTable}
 
 -- ---- offsets
 
@@ -125,7 +125,7 @@ separatorRules index sequence = cond (isProtein index) (proteinSeparatorRules in
 
 -- A sum is the residue count and a largest length is the longest.
 abbrev pub statedRules : List ℕ → ℕ → ℕ → List (Rule Refusal)
-statedRules index sum largest = ask (eqb sum (residues index)) WrongTotals ∷ ask (eqb largest (longest index)) WrongTotals ∷ []
+statedRules index sum largest = ask (eqb sum (residueCount index)) WrongTotals ∷ ask (eqb largest (longest index)) WrongTotals ∷ []
 
 -- The sum of lengths is the residue count and the largest is the longest, 0 for N = 0.
 abbrev pub totalsOf : List ℕ → (ℕ → ℕ) → List (Rule Refusal)

@@ -13,7 +13,7 @@ use Rattle.answers.specs.declared.Refusal.the-variants.{TooLarge}
 use Rattle.volume.specs.declared.VolumeRecord.{VolumeRecord}
 use Rattle.volume.specs.declared.VolumeAnswer.{VolumeAnswer}
 use Rattle.volume.specs.declared.VolumeAnswer.the-variants.{Passed, Refused}
-use Rattle.volume.specs.Index.{volumeType, titleStart, titleLength, timestampStart, timestampLength, sequences, residues, longest, indexRules}
+use Rattle.volume.specs.Index.{volumeType, titleStart, titleLength, timestampStart, timestampLength, sequences, residueCount, longest, indexRules}
 use Rattle.volume.specs.Tables.{offsetRules, separatorRules, totalRules}
 
 -- No file is over 2,147,483,647 bytes (22).
@@ -38,7 +38,7 @@ volumeRecord index =
     record {
       kind = volumeType index;
       sequences = sequences index;
-      residues = residues index;
+      residues = residueCount index;
       longest = longest index;
       «title_start» = titleStart;
       «title_length» = titleLength index;

@@ -11,7 +11,7 @@ ghost use lib.Signed.{nonNeg};
 ghost use Rattle.laws.specs.Signed.{toNat, eqZ};
 ghost use Rattle.fields.specs.Number.{big, little, signedAt};
 ghost use Rattle.answers.specs.Limits.{checkedBy};
-ghost use Rattle.volume.specs.Index.{volumeType, isType, isProtein, titleLength, titleEnd, timestampLength, timestampEnd, sequences, residues, longest, sequenceTable, ambiguityTable, tablesEnd, titleRules, timestampRules, countRules, tableRules, indexRules, indexOf};
+ghost use Rattle.volume.specs.Index.{volumeType, isType, isProtein, titleLength, titleEnd, timestampLength, timestampEnd, sequences, residueCount, longest, sequenceTable, ambiguityTable, tablesEnd, titleRules, timestampRules, countRules, tableRules, indexRules, indexOf};
 
 // The most sequences of a volume.
 const MOST_SEQUENCES: usize = 134217728;
@@ -110,7 +110,7 @@ pub(crate) fn sequence_count(index: &[u8]) -> usize
 }
 
 pub(crate) fn residue_count(index: &[u8]) -> usize
-    ensures { λ r. ⌜ r ≡ residues (now (index .entry)) ⌝ }
+    ensures { λ r. ⌜ r ≡ residueCount (now (index .entry)) ⌝ }
 {
     natural_wide_at(index, timestamp_end(index) + 4)
 }

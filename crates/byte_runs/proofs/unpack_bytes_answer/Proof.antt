@@ -52,7 +52,8 @@ is-alphabet-requires : tie.Need-is-alphabet-requires
 is-alphabet-requires c κs = search needs
 
 returns-3 : tie.Need-returns-3
-returns-3 c = sym (whole (c .before .before) ∙ run-wrong (c .before .before .before .before .before .args .alphabet) _ _ (sym (c .before .is-alphabet .ensures) ∙ not-true _ (c .if3 .taken)))
+returns-3 c = sym (whole (c .before .before) ∙ run-wrong (c .before .before .before .before .before .args .alphabet) _ _
+    (sym (c .before .is-alphabet .ensures) ∙ not-true _ (c .if3 .taken)))
 
 read-run-requires : tie.Need-read-run-requires
 read-run-requires c κs = search needs
@@ -65,13 +66,15 @@ enum-told c = search needs
 
 returns-4 : tie.Need-returns-4
 returns-4 c = sym
-    (whole (c .before .before .before .before .before) ∙ run-bad _ _ _ (known (c .before .before .before)) (read-not _ _ _ (read (c .before .before)) (c .enum-told .given .1)))
+    (whole (c .before .before .before .before .before) ∙ run-bad _ _ _ (known (c .before .before .before))
+    (read-not _ _ _ (read (c .before .before)) (c .enum-told .given .1)))
 
 returns-5 : tie.Need-returns-5
 returns-5 c =
     let f = formed (c .before .before) in
     let n = f .1 in
-    sym (whole (c .before .before .before .before .before .before .before) ∙ run-full _ _ _ (known (c .before .before .before .before .before)) (f .0) (omega arith))
+    sym (whole (c .before .before .before .before .before .before .before) ∙ run-full _ _ _ (known (c .before .before .before .before .before))
+    (f .0) (omega arith))
 
 returns-6 : tie.Need-returns-6
 returns-6 c =
@@ -80,7 +83,8 @@ returns-6 c =
     let n = f .1 in
     ap (λ (l : ℕ). Unpacked (length (bytes s) / 4) l) n
     ∙ ap (λ (m : ℕ). Unpacked m (length (unpacked (packets s)))) (sym (length-packets (bytes s)))
-    ∙ sym (whole (c .before .before .before .before .before .before .before) ∙ run-done _ _ _ (record { known = known (c .before .before .before .before .before); formed = f .0; fits = omega arith }))
+    ∙ sym (whole (c .before .before .before .before .before .before .before) ∙ run-done _ _ _
+    (record { known = known (c .before .before .before .before .before); formed = f .0; fits = omega arith }))
 
 pub unpack-bytes-answer-spec : {M : Type 1} → statement M
 unpack-bytes-answer-spec =

@@ -12,7 +12,8 @@ use Rattle.packets.proofs.put_first.Statement.{statement}
 use Rattle.packets.proofs.put_first.Tie as tie
 
 abbrev Inv-loop : tie.InvT-loop
-Inv-loop packet count out₀ at n₀ i₀ out n i = (i ≤ count) × (i + n ≡ 6) × (length out ≡ length out₀) × (out ≡ paste out₀ at (digits 5 6 packet) i) × (drop i (digits 5 6 packet) ≡ digits 5 n packet)
+Inv-loop packet count out₀ at n₀ i₀ out n i = (i ≤ count) × (i + n ≡ 6) × (length out ≡ length out₀) × (out ≡ paste out₀ at (digits 5 6 packet) i) ×
+    (drop i (digits 5 6 packet) ≡ digits 5 n packet)
 
 abbrev μ-loop : tie.MeasureT-loop
 μ-loop packet count out₀ at n₀ i₀ out n i = count - i
@@ -47,8 +48,14 @@ loop-less c = search needs
 loop-again : tie.Need-loop-again Inv-loop μ-loop
 loop-again c = let l = (c .before .loop) in
     let a = (c .before .before .args) in
-    let w = put-step 5 6 (a .packet) (now (a .out)) (a .at) (l .i) (l .n) (l .out) (l .inv .3) (l .inv .4) (omega arith) (omega arith) in
-    (omega arith, omega arith, simp length-set (l .inv .2), w, put-rest 5 6 (a .packet) (now (a .out)) (a .at) (l .i) (l .n) (l .out) (l .inv .3) (l .inv .4) (omega arith))
+    let w = put-step 5 6 (a .packet) (now (a .out)) (a .at) (l .i) (l .n) (l .out) (l .inv .3) (l .inv .4) (omega arith) (omega arith) in (
+      omega arith,
+      omega arith,
+      simp length-set (l .inv .2),
+      w,
+      put-rest 5 6 (a .packet) (now (a .out)) (a .at) (l .i) (l .n) (l .out) (l .inv .3)
+          (l .inv .4) (omega arith),
+    )
 
 same-length : tie.Need-same-length Inv-loop μ-loop
 same-length c = (c .before .loop) .inv .2

@@ -53,8 +53,12 @@ returns c = let a = (c .before .before .before .before .before .before .before .
     let x₄ = (c .before .before .before .four-codes4) in
     (c .before .before .put-u324) .ensures
     ∙ ap (λ (l : List ℕ). numberPut 4 (a .at + 11) (x₄ .result) l)
-    ((c .before .before .before .before .before .before .before .put-u323) .ensures ∙ ap (λ (l : List ℕ). numberPut 4 (a .at + 8) (x₃ .result) l) ((c .before .before .before .before .before .before .before .before .before .before .before .before .put-u322) .ensures ∙ ap (λ (l : List ℕ). numberPut 4 (a .at + 4) (x₂ .result) l) ((c .before .before .before .before .before .before .before .before .before .before .before .before .before .before .before .before .before .put-u32) .ensures)))
-    ∙ fours-written (a .at) (now (a .out)) (a .packet) (x₁ .result) (x₂ .result) (x₃ .result) (x₄ .result) ((c .before .before .before .before .before .before .before .before .before .before .before .before .before .before .before .before .before .before .before .before .before .pre)) (x₁ .ensures) (x₂ .ensures) (x₃ .ensures) (x₄ .ensures)
+    ((c .before .before .before .before .before .before .before .put-u323) .ensures ∙ ap (λ (l : List ℕ). numberPut 4 (a .at + 8) (x₃ .result) l)
+    ((c .before .before .before .before .before .before .before .before .before .before .before .before .put-u322) .ensures ∙ ap
+    (λ (l : List ℕ). numberPut 4 (a .at + 4) (x₂ .result) l)
+    ((c .before .before .before .before .before .before .before .before .before .before .before .before .before .before .before .before .before .put-u32) .ensures)))
+    ∙ fours-written (a .at) (now (a .out)) (a .packet) (x₁ .result) (x₂ .result) (x₃ .result) (x₄ .result)
+    ((c .before .before .before .before .before .before .before .before .before .before .before .before .before .before .before .before .before .before .before .before .before .pre)) (x₁ .ensures) (x₂ .ensures) (x₃ .ensures) (x₄ .ensures)
 
 pub put-two-spec : {M : Type 1} → statement M
 put-two-spec =

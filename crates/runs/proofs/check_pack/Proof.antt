@@ -17,7 +17,8 @@ small c = le-leb _ 2147483647 (c .if1 .left)
 known : (c : tie.Else2) → isAlphabet (c .before .before .before .before .args .alphabet) ≡ true
 known c = sym (c .before .is-alphabet .ensures) ∙ not-false _ (c .if2 .left)
 
-valid : (c : tie.Else3) → validCodes (c .before .before .before .before .before .before .args .alphabet) (now (c .before .before .before .before .before .before .args .codes)) ≡ true
+valid : (c : tie.Else3) → validCodes (c .before .before .before .before .before .before .args .alphabet)
+    (now (c .before .before .before .before .before .before .args .codes)) ≡ true
 valid c = sym (c .before .valid-codes .ensures) ∙ not-false _ (c .if3 .left)
 
 returns : tie.Need-returns
@@ -39,10 +40,22 @@ run-fits-requires : tie.Need-run-fits-requires
 run-fits-requires c κs = search needs
 
 returns-4 : tie.Need-returns-4
-returns-4 c = rw (small (c .before .before .before .before .before .before), known (c .before .before .before .before), valid (c .before .before), sym (c .before .run-fits .ensures) ∙ not-true _ (c .if4 .taken))
+returns-4 c = rw (
+  small (c .before .before .before .before .before .before),
+  known (c .before .before .before .before),
+  valid
+      (c .before .before),
+  sym (c .before .run-fits .ensures) ∙ not-true _ (c .if4 .taken),
+)
 
 returns-5 : tie.Need-returns-5
-returns-5 c = rw (small (c .before .before .before .before .before .before), known (c .before .before .before .before), valid (c .before .before), sym (c .before .run-fits .ensures) ∙ not-false _ (c .if4 .left))
+returns-5 c = rw (
+  small (c .before .before .before .before .before .before),
+  known (c .before .before .before .before),
+  valid
+      (c .before .before),
+  sym (c .before .run-fits .ensures) ∙ not-false _ (c .if4 .left),
+)
 
 pub check-pack-spec : {M : Type 1} → statement M
 check-pack-spec =

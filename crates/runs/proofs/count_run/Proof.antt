@@ -12,7 +12,8 @@ use Rattle.runs.proofs.count_run.Statement.{statement}
 use Rattle.runs.proofs.count_run.Tie as tie
 
 abbrev Inv-loop : tie.InvT-loop
-Inv-loop alphabet codes at₀ count₀ at count = (count ≤ at) × (at ≤ length codes - 1) × (length (run alphabet codes) ≡ count + length (run alphabet (drop at codes)))
+Inv-loop alphabet codes at₀ count₀ at count = (count ≤ at) × (at ≤ length codes - 1) ×
+    (length (run alphabet codes) ≡ count + length (run alphabet (drop at codes)))
 
 abbrev μ-loop : tie.MeasureT-loop
 μ-loop alphabet codes at₀ count₀ at count = length codes - at

@@ -46,7 +46,8 @@ returns-2 c = let a = (c .before .before .before .before .before .before .before
     let m = check-passed (a .alphabet) cs room (a .place .0) (check .result) (check .ensures) ((c .before .before .before .before .enum-told) .given .1) in
     let e = pack-done (a .alphabet) cs room (a .place .0) m in (
       ap (λ (n : ℕ). Packed n (length cs)) ((c .before .before .write-run) .ensures .0) ∙ sym e,
-      (c .before .before .write-run) .ensures .1 ∙ sym (packets-written (a .alphabet) cs (now (a .packets)) (a .place .0) (length (run (a .alphabet) cs)) (length cs) e),
+      (c .before .before .write-run) .ensures .1 ∙ sym (packets-written (a .alphabet) cs (now (a .packets)) (a .place .0)
+          (length (run (a .alphabet) cs)) (length cs) e),
     )
 
 pub pack-spec : {M : Type 1} → statement M

@@ -47,7 +47,8 @@ is-last-requires c κs = search needs
 returns-3 : tie.Need-returns-3
 returns-3 c =
     let s = c .before .before .before .before .before .before .before in
-    found-open (s .args .alphabet) (packets s) (length (packets s) - 1) (omega arith) (no-fault (c .before .before .before)) _ refl _ (c .before .is-last .ensures)
+    found-open (s .args .alphabet) (packets s) (length (packets s) - 1) (omega arith) (no-fault (c .before .before .before)) _ refl _
+    (c .before .is-last .ensures)
     (not-true _ (c .if3 .taken))
 
 count-codes-requires : tie.Need-count-codes-requires
@@ -72,7 +73,8 @@ returns-4 : tie.Need-returns-4
 returns-4 c =
     let s = c .before .before .before .before .before .before .before .before .before in
     found-run (s .args .alphabet) (packets s) (length (packets s) - 1) (omega arith) (no-fault (c .before .before .before .before .before)) _ refl
-    _ (c .before .before .before .is-last .ensures) _ _ (c .before .count-codes .ensures) (c .residue-count .ensures) (not-false _ (c .before .before .if3 .left))
+    _ (c .before .before .before .is-last .ensures) _ _ (c .before .count-codes .ensures) (c .residue-count .ensures)
+    (not-false _ (c .before .before .if3 .left))
 
 pub read-run-spec : {M : Type 1} → statement M
 read-run-spec =

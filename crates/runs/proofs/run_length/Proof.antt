@@ -11,7 +11,8 @@ sixes-of-requires : tie.Need-sixes-of-requires
 sixes-of-requires c κs = search needs
 
 returns : tie.Need-returns
-returns c = (c .sixes-of) .ensures ∙ sym (run-amino ((c .before .before .before .args) .alphabet) (now ((c .before .before .before .args) .codes)) (eq-eqb _ _ ((c .before .if1) .taken)))
+returns c = (c .sixes-of) .ensures ∙ sym (run-amino ((c .before .before .before .args) .alphabet) (now ((c .before .before .before .args) .codes))
+    (eq-eqb _ _ ((c .before .if1) .taken)))
 
 count-run-requires : tie.Need-count-run-requires
 count-run-requires c κs = search needs

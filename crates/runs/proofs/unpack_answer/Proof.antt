@@ -17,7 +17,8 @@ use Rattle.runs.proofs.unpack_answer.Statement.{statement}
 use Rattle.runs.proofs.unpack_answer.Tie as tie
 
 -- the rules that were asked and hold, and the run that was read
-large-not : (c : tie.Else1) → let a = c .before .before .args in unpackAnswer (a .alphabet) (now (a .packets)) (a .room) ≡ RunAnswer (a .alphabet) (now (a .packets)) (a .room)
+large-not : (c : tie.Else1) → let a = c .before .before .args in unpackAnswer (a .alphabet) (now (a .packets)) (a .room) ≡ RunAnswer (a .alphabet)
+    (now (a .packets)) (a .room)
 large-not c = unpack-as _ _ _ (c .if1 .left)
 
 known : (c : tie.Else2) → isAlphabet (c .before .before .before .before .args .alphabet) ≡ true
@@ -34,7 +35,8 @@ is-alphabet-requires : tie.Need-is-alphabet-requires
 is-alphabet-requires c κs = search needs
 
 returns-2 : tie.Need-returns-2
-returns-2 c = sym (large-not (c .before .before) ∙ run-wrong (c .before .before .before .before .args .alphabet) _ _ (sym (c .before .is-alphabet .ensures) ∙ not-true _ (c .if2 .taken)))
+returns-2 c = sym (large-not (c .before .before) ∙ run-wrong (c .before .before .before .before .args .alphabet) _ _
+    (sym (c .before .is-alphabet .ensures) ∙ not-true _ (c .if2 .taken)))
 
 read-run-requires : tie.Need-read-run-requires
 read-run-requires c κs = search needs
@@ -48,13 +50,15 @@ enum-told c = search needs
 returns-3 : tie.Need-returns-3
 returns-3 c =
     let r = c .before .before .read-run in
-    sym (large-not (c .before .before .before .before .before) ∙ run-bad _ _ _ (known (c .before .before .before)) (read-not _ _ (r .result) (r .ensures) (c .enum-told .given .1)))
+    sym (large-not (c .before .before .before .before .before) ∙ run-bad _ _ _ (known (c .before .before .before))
+    (read-not _ _ (r .result) (r .ensures) (c .enum-told .given .1)))
 
 returns-4 : tie.Need-returns-4
 returns-4 c =
     let f = read (c .before .before) in
     let n = f .1 in
-    sym (large-not (c .before .before .before .before .before .before .before) ∙ run-full _ _ _ (known (c .before .before .before .before .before)) (f .0) (omega arith))
+    sym (large-not (c .before .before .before .before .before .before .before) ∙ run-full _ _ _ (known (c .before .before .before .before .before))
+    (f .0) (omega arith))
 
 returns-5 : tie.Need-returns-5
 returns-5 c =

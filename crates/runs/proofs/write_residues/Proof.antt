@@ -29,8 +29,13 @@ sub-last c = omega (arith, well-some ((c .before .before .args) .alphabet) _ ((c
 
 loop-holds : tie.Need-loop-holds Inv-loop μ-loop
 loop-holds c =
-    let ps = now ((c .before .before .args) .packets) in
-    (omega arith, omega (arith, well-some ((c .before .before .args) .alphabet) ps ((c .before .before .pre) .0)), omega (arith, none-yet ps 0), begun-start ps 0 0 _ (now ((c .before .before .args) .out)))
+    let ps = now ((c .before .before .args) .packets) in (
+      omega arith,
+      omega (arith, well-some ((c .before .before .args) .alphabet) ps ((c .before .before .pre) .0)),
+      omega
+          (arith, none-yet ps 0),
+      begun-start ps 0 0 _ (now ((c .before .before .args) .out)),
+    )
 
 mul-packet : tie.Need-mul-packet Inv-loop μ-loop
 mul-packet c = search needs
@@ -50,7 +55,15 @@ add-at c =
     let l = (c .before .before .before .before .before .before .before .loop) in
     let ps = now (a .packets) in
     let p = getD ps (l .i) 0 in
-    omega (arith, (c .code-count) .ensures, (c .before .before .before .before .before .before .before .before .before .before .pre) .1, behind-room (a .alphabet) ps ((c .before .before .before .before .before .before .before .before .before .before .pre) .0) 0 0 (now (a .out)) (rw zero-add ((c .before .before .before .before .before .before .before .before .before .before .pre) .1)) (l .i) p (l .at) (rw zero-add) (l .inv .2) (l .out) (l .inv .3) (omega arith))
+    omega (
+      arith,
+      (c .code-count) .ensures,
+      (c .before .before .before .before .before .before .before .before .before .before .pre) .1,
+      behind-room
+          (a .alphabet) ps ((c .before .before .before .before .before .before .before .before .before .before .pre) .0) 0 0 (now (a .out))
+          (rw zero-add ((c .before .before .before .before .before .before .before .before .before .before .pre) .1)) (l .i) p (l .at) (rw zero-add)
+          (l .inv .2) (l .out) (l .inv .3) (omega arith),
+    )
 
 add-i : tie.Need-add-i Inv-loop μ-loop
 add-i c = search needs
@@ -64,14 +77,24 @@ loop-again c =
     let l = (c .before .before .before .before .before .before .before .loop) in
     let ps = now (a .packets) in
     let p = getD ps (l .i) 0 in
-    let room : 0 + length (unpacked (drop 0 ps)) ≤ length (now (a .out)) = rw zero-add ((c .before .before .before .before .before .before .before .before .before .before .pre) .1) in
+    let room : 0 + length (unpacked (drop 0 ps)) ≤ length (now (a .out)) = rw zero-add
+    ((c .before .before .before .before .before .before .before .before .before .before .pre) .1) in
     let here : p ≡ getD ps (0 + l .i) 0 = rw zero-add in
-    let r = behind-room (a .alphabet) ps ((c .before .before .before .before .before .before .before .before .before .before .pre) .0) 0 0 (now (a .out)) room (l .i) p (l .at) here (l .inv .2) (l .out) (l .inv .3) (omega arith) in (
+    let r = behind-room (a .alphabet) ps ((c .before .before .before .before .before .before .before .before .before .before .pre) .0) 0 0
+    (now (a .out)) room (l .i) p (l .at) here (l .inv .2) (l .out) (l .inv .3) (omega arith) in (
       omega arith,
       l .inv .1,
-      omega (arith, (c .code-count) .ensures, l .inv .2, behind-count (a .alphabet) ps ((c .before .before .before .before .before .before .before .before .before .before .pre) .0) 0 0 (now (a .out)) room (l .i) p (l .at) here (l .inv .2) (l .out) (l .inv .3)),
+      omega (
+        arith,
+        (c .code-count) .ensures,
+        l .inv .2,
+        behind-count (a .alphabet) ps
+            ((c .before .before .before .before .before .before .before .before .before .before .pre) .0) 0 0 (now (a .out)) room (l .i) p (l .at) here
+            (l .inv .2) (l .out) (l .inv .3),
+      ),
       rw ((c .before .before .before .decode-codes) .ensures ∙ codes-put p (l .at) (l .out) (codesIn p) refl (omega (arith, l .inv .3 .size)))
-          (behind-more (a .alphabet) ps ((c .before .before .before .before .before .before .before .before .before .before .pre) .0) 0 0 (now (a .out)) room (l .i) p (l .at) here (l .inv .2) (l .out) (l .inv .3) (omega arith)),
+          (behind-more (a .alphabet) ps ((c .before .before .before .before .before .before .before .before .before .before .pre) .0) 0 0
+          (now (a .out)) room (l .i) p (l .at) here (l .inv .2) (l .out) (l .inv .3) (omega arith)),
     )
 
 mul-decode : tie.Need-mul-decode Inv-loop μ-loop
@@ -93,13 +116,16 @@ returns c =
     let ps = now (a .packets) in
     let p = getD ps (length ps - 1) 0 in
     let n : l .i ≡ length ps - 1 = omega arith in
-    let room : 0 + length (unpacked (drop 0 ps)) ≤ length (now (a .out)) = rw zero-add ((c .before .before .before .before .before .before .before .before .before .pre) .1) in
+    let room : 0 + length (unpacked (drop 0 ps)) ≤ length (now (a .out)) = rw zero-add
+    ((c .before .before .before .before .before .before .before .before .before .pre) .1) in
     let here : p ≡ getD ps (0 + l .i) 0 = rw (zero-add, n) in
     let h : 0 + l .i + 1 ≡ length ps = omega arith in
-    let r = last-room (a .alphabet) ps ((c .before .before .before .before .before .before .before .before .before .pre) .0) 0 0 (now (a .out)) room (l .i) p (l .at) here (l .inv .2) (l .out) (l .inv .3) h in
+    let r = last-room (a .alphabet) ps ((c .before .before .before .before .before .before .before .before .before .pre) .0) 0 0 (now (a .out)) room
+    (l .i) p (l .at) here (l .inv .2) (l .out) (l .inv .3) h in
     (c .before .before .decode) .ensures
     ∙ residues-put p (l .at) (l .out) (residues p) refl (omega (arith, l .inv .3 .size))
-    ∙ behind-last (a .alphabet) ps ((c .before .before .before .before .before .before .before .before .before .pre) .0) 0 0 (now (a .out)) room (l .i) p (l .at) here (l .inv .2) (l .out) (l .inv .3) h
+    ∙ behind-last (a .alphabet) ps ((c .before .before .before .before .before .before .before .before .before .pre) .0) 0 0 (now (a .out)) room
+    (l .i) p (l .at) here (l .inv .2) (l .out) (l .inv .3) h
 
 pub write-residues-spec : {M : Type 1} → statement M
 write-residues-spec =

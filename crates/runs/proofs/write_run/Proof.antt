@@ -14,13 +14,21 @@ use Rattle.runs.proofs.write_run.Statement.{statement}
 use Rattle.runs.proofs.write_run.Tie as tie
 
 abbrev Inv-loop : tie.InvT-loop
-Inv-loop alphabet codes packets₀ place at₀ count₀ packets at count = (count ≤ at) × (at ≤ length codes - 1) × (length packets ≡ length packets₀) × (packets ≡ paste packets₀ place (run alphabet codes) count) × (drop count (run alphabet codes) ≡ run alphabet (drop at codes))
+Inv-loop alphabet codes packets₀ place at₀ count₀ packets at count = (count ≤ at) × (at ≤ length codes - 1) × (length packets ≡ length packets₀) ×
+    (packets ≡ paste packets₀ place (run alphabet codes) count) × (drop count (run alphabet codes) ≡ run alphabet (drop at codes))
 
 abbrev μ-loop : tie.MeasureT-loop
 μ-loop alphabet codes packets₀ place at₀ count₀ packets at count = length codes - at
 
 loop-holds : tie.Need-loop-holds Inv-loop μ-loop
-loop-holds c = (omega arith, omega arith, refl, paste-zero (now ((c .before .before .args) .packets)) ((c .before .before .args) .place) (run ((c .before .before .args) .alphabet) (now ((c .before .before .args) .codes))), refl)
+loop-holds c = (
+  omega arith,
+  omega arith,
+  refl,
+  paste-zero (now ((c .before .before .args) .packets)) ((c .before .before .args) .place)
+      (run ((c .before .before .args) .alphabet) (now ((c .before .before .args) .codes))),
+  refl,
+)
 
 sub-left : tie.Need-sub-left Inv-loop μ-loop
 sub-left c = search needs
@@ -41,19 +49,37 @@ add-packets : tie.Need-add-packets Inv-loop μ-loop
 add-packets c = let l = (c .before .before .loop) in
     let R = run ((c .before .before .before .before .before .args) .alphabet) (now ((c .before .before .before .before .before .args) .codes)) in
     let n = ap length (l .inv .4) in
-    omega (arith, (c .before .before .before .before .before .pre) .1, length-drop (l .count) R, run-some ((c .before .before .before .before .before .args) .alphabet) (drop (l .at) (now ((c .before .before .before .before .before .args) .codes))))
+    omega (
+      arith,
+      (c .before .before .before .before .before .pre) .1,
+      length-drop (l .count) R,
+      run-some
+          ((c .before .before .before .before .before .args) .alphabet) (drop (l .at) (now ((c .before .before .before .before .before .args) .codes))),
+    )
 
 mul-packets : tie.Need-mul-packets Inv-loop μ-loop
 mul-packets c = let l = (c .before .before .loop) in
     let R = run ((c .before .before .before .before .before .args) .alphabet) (now ((c .before .before .before .before .before .args) .codes)) in
     let n = ap length (l .inv .4) in
-    omega (arith, (c .before .before .before .before .before .pre) .1, length-drop (l .count) R, run-some ((c .before .before .before .before .before .args) .alphabet) (drop (l .at) (now ((c .before .before .before .before .before .args) .codes))))
+    omega (
+      arith,
+      (c .before .before .before .before .before .pre) .1,
+      length-drop (l .count) R,
+      run-some
+          ((c .before .before .before .before .before .args) .alphabet) (drop (l .at) (now ((c .before .before .before .before .before .args) .codes))),
+    )
 
 slice-write-packets : tie.Need-slice-write-packets Inv-loop μ-loop
 slice-write-packets c = let l = (c .before .before .loop) in
     let R = run ((c .before .before .before .before .before .args) .alphabet) (now ((c .before .before .before .before .before .args) .codes)) in
     let n = ap length (l .inv .4) in
-    omega (arith, (c .before .before .before .before .before .pre) .1, length-drop (l .count) R, run-some ((c .before .before .before .before .before .args) .alphabet) (drop (l .at) (now ((c .before .before .before .before .before .args) .codes))))
+    omega (
+      arith,
+      (c .before .before .before .before .before .pre) .1,
+      length-drop (l .count) R,
+      run-some
+          ((c .before .before .before .before .before .args) .alphabet) (drop (l .at) (now ((c .before .before .before .before .before .args) .codes))),
+    )
 
 add-count : tie.Need-add-count Inv-loop μ-loop
 add-count c = omega arith
@@ -70,9 +96,15 @@ returns c = let l = (c .before .before .before .loop) in
     let R = run a cs in
     let d = now ((c .before .before .before .before .before .before .args) .packets) in
     let p = (c .before .encode) .result .packet in
-    let q : p ≡ packet a (drop (l .at) cs) = packet-is a cs (l .at) p ((c .before .before .before .before .before .before .pre) .0) ((c .before .encode) .ensures .0) in
-    let r : drop (l .count) R ≡ p ∷ [] = l .inv .4 ∙ rw q (run-ends a cs (l .at) s e ((c .if1) .taken)) in
-    (store-count R d ((c .before .before .before .before .before .before .args) .place) (l .count) (l .packets) (l .inv .3) p [] r ((c .before .before .before .before .before .before .pre) .1) refl, store-ends R d ((c .before .before .before .before .before .before .args) .place) (l .count) (l .packets) (l .inv .3) p [] r ((c .before .before .before .before .before .before .pre) .1) refl)
+    let q : p ≡ packet a (drop (l .at) cs) = packet-is a cs (l .at) p ((c .before .before .before .before .before .before .pre) .0)
+    ((c .before .encode) .ensures .0) in
+    let r : drop (l .count) R ≡ p ∷ [] = l .inv .4 ∙ rw q (run-ends a cs (l .at) s e ((c .if1) .taken)) in (
+      store-count R d ((c .before .before .before .before .before .before .args) .place) (l .count) (l .packets) (l .inv .3) p [] r
+          ((c .before .before .before .before .before .before .pre) .1) refl,
+      store-ends R d
+          ((c .before .before .before .before .before .before .args) .place) (l .count) (l .packets) (l .inv .3) p [] r
+          ((c .before .before .before .before .before .before .pre) .1) refl,
+    )
 
 add-at : tie.Need-add-at Inv-loop μ-loop
 add-at c = omega arith
@@ -94,14 +126,17 @@ loop-again c = let l = (c .before .before .before .loop) in
     let R = run a cs in
     let d = now ((c .before .before .before .before .before .before .args) .packets) in
     let p = (c .before .encode) .result .packet in
-    let q : p ≡ packet a (drop (l .at) cs) = packet-is a cs (l .at) p ((c .before .before .before .before .before .before .pre) .0) ((c .before .encode) .ensures .0) in
+    let q : p ≡ packet a (drop (l .at) cs) = packet-is a cs (l .at) p ((c .before .before .before .before .before .before .pre) .0)
+    ((c .before .encode) .ensures .0) in
     let r : drop (l .count) R ≡ p ∷ run a (drop (l .at + s) cs) = l .inv .4 ∙ rw q (run-goes a cs (l .at) s e ((c .if1) .left)) in
     let more = run a (drop (l .at + s) cs) in (
       omega (arith, size-some a (drop (l .at) cs) (omega (arith, length-drop (l .at) cs))),
       omega arith,
       simp length-set (l .inv .2),
-      store-goes R d ((c .before .before .before .before .before .before .args) .place) (l .count) (l .packets) (l .inv .3) p more r ((c .before .before .before .before .before .before .pre) .1),
-      store-rest R d ((c .before .before .before .before .before .before .args) .place) (l .count) (l .packets) (l .inv .3) p more r ((c .before .before .before .before .before .before .pre) .1),
+      store-goes R d ((c .before .before .before .before .before .before .args) .place) (l .count) (l .packets) (l .inv .3) p more r
+          ((c .before .before .before .before .before .before .pre) .1),
+      store-rest R d ((c .before .before .before .before .before .before .args) .place) (l .count) (l .packets) (l .inv .3) p more r
+          ((c .before .before .before .before .before .before .pre) .1),
     )
 
 pub write-run-spec : {M : Type 1} → statement M

@@ -26,7 +26,8 @@ returns c =
     let sequence = now ((c .before .before .before .before .before .before .before .args) .sequence) in
     let header = now ((c .before .before .before .before .before .before .before .args) .header) in
     let more = offsetRules index sequence header ++ (separatorRules index sequence ++ totalRules index sequence) in
-    sym (refused-first (volumeSizeRules index sequence header) (indexRules index ++ more) _ _ ((c .before .before .before .check-sizes) .ensures) ((c .before .r) .given .1) Refused Passed)
+    sym (refused-first (volumeSizeRules index sequence header) (indexRules index ++ more) _ _ ((c .before .before .before .check-sizes) .ensures)
+    ((c .before .r) .given .1) Refused Passed)
 
 enum-told : tie.Need-enum-told
 enum-told c = search needs
@@ -44,8 +45,11 @@ returns-2 c =
     let sequence = now ((c .before .before .before .before .before .before .before .before .before .before .args) .sequence) in
     let header = now ((c .before .before .before .before .before .before .before .before .before .before .args) .header) in
     let more = offsetRules index sequence header ++ (separatorRules index sequence ++ totalRules index sequence) in
-    let fits = all-hold (volumeSizeRules index sequence header) _ ((c .before .before .before .before .before .before .check-sizes) .ensures) ((c .before .before .before .before .enum-told) .given .1) .0 in
-    sym (passed-first (volumeSizeRules index sequence header) (indexRules index ++ more) _ ((c .before .before .before .before .before .before .check-sizes) .ensures) ((c .before .before .before .before .enum-told) .given .1) Refused Passed
+    let fits = all-hold (volumeSizeRules index sequence header) _ ((c .before .before .before .before .before .before .check-sizes) .ensures)
+    ((c .before .before .before .before .enum-told) .given .1) .0 in
+    sym (passed-first (volumeSizeRules index sequence header) (indexRules index ++ more) _
+    ((c .before .before .before .before .before .before .check-sizes) .ensures)
+    ((c .before .before .before .before .enum-told) .given .1) Refused Passed
     ∙ sym (size-asked index Refused Passed more fits)
     ∙ index-refused index Refused Passed more _ (sym ((c .before .before .before .read-index) .ensures) ∙ (c .before .r2) .given .1))
 
@@ -65,10 +69,13 @@ returns-3 c =
     let sequence = now ((c .before .before .before .before .before .before .before .before .before .before .args) .sequence) in
     let header = now ((c .before .before .before .before .before .before .before .before .before .before .args) .header) in
     let more = offsetRules index sequence header ++ (separatorRules index sequence ++ totalRules index sequence) in
-    let fits = all-hold (volumeSizeRules index sequence header) _ ((c .before .before .before .before .before .before .check-sizes) .ensures) ((c .before .before .before .before .enum-told) .given .1) .0 in
+    let fits = all-hold (volumeSizeRules index sequence header) _ ((c .before .before .before .before .before .before .check-sizes) .ensures)
+    ((c .before .before .before .before .enum-told) .given .1) .0 in
     let read = index-read index _ (sym ((c .before .before .before .read-index) .ensures) ∙ (c .before .enum-told2) .given .1) .0 in
     (c .check-contents) .ensures
-    ∙ sym (passed-first (volumeSizeRules index sequence header) (indexRules index ++ more) _ ((c .before .before .before .before .before .before .check-sizes) .ensures) ((c .before .before .before .before .enum-told) .given .1) Refused Passed
+    ∙ sym (passed-first (volumeSizeRules index sequence header) (indexRules index ++ more) _
+    ((c .before .before .before .before .before .before .check-sizes) .ensures)
+    ((c .before .before .before .before .enum-told) .given .1) Refused Passed
     ∙ sym (size-asked index Refused Passed more fits)
     ∙ index-first index Refused Passed more read)
 

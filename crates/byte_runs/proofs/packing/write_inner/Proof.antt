@@ -58,7 +58,8 @@ write-twos-requires c κs = (
       ((c .before .before .byte-of) .result .0) ((c .before .before .before .before .before .before .before .before .pre) .0) (omega (
         arith,
         (c .before .before .byte-of) .ensures,
-        begun-place _ _ _ _ _ ((c .before .before .before .before .before .loop) .inv .0) ((c .before .before .before .before .before .before .before .before .pre) .1),
+        begun-place _ _ _ _ _ ((c .before .before .before .before .before .loop) .inv .0)
+            ((c .before .before .before .before .before .before .before .before .pre) .1),
       )),
 )
 

@@ -62,7 +62,8 @@ is-last-requires c κs = search needs
 
 returns-4 : tie.Need-returns-4
 returns-4 c =
-    found-open _ _ _ (last-is (c .before .before .before .before .before)) (no-fault (c .before .before .before)) _ (c .before .before .packet-at .ensures) _ (c .before .is-last .ensures) (not-true _ (c .if4 .taken))
+    found-open _ _ _ (last-is (c .before .before .before .before .before)) (no-fault (c .before .before .before)) _
+    (c .before .before .packet-at .ensures) _ (c .before .is-last .ensures) (not-true _ (c .if4 .taken))
     ∙ fits (c .before .before .before .before .before .before)
 
 inner-codes-requires : tie.Need-inner-codes-requires
@@ -76,13 +77,16 @@ add-t14 c =
     let s = c .before .before .before .before .before .before .before .before .before .before in
     let m = c .before .inner-codes in
     let k = c .residue-count in
-    let most = found-most (s .args .alphabet) (packets s) (length (bytes s) / 4 - 1) (last-is (c .before .before .before .before .before .before .before)) (no-fault (c .before .before .before .before .before)) _ (c .before .before .before .before .packet-at .ensures)
+    let most = found-most (s .args .alphabet) (packets s) (length (bytes s) / 4 - 1)
+    (last-is (c .before .before .before .before .before .before .before)) (no-fault (c .before .before .before .before .before)) _
+    (c .before .before .before .before .packet-at .ensures)
     _ (c .before .before .before .is-last .ensures) (m .result) (k .result) (m .ensures) (k .ensures) in
     omega (arith, length-packets (bytes s))
 
 returns-5 : tie.Need-returns-5
 returns-5 c =
-    found-run _ _ _ (last-is (c .before .before .before .before .before .before .before)) (no-fault (c .before .before .before .before .before)) _ (c .before .before .before .before .packet-at .ensures) _ (c .before .before .before .is-last .ensures) _ _
+    found-run _ _ _ (last-is (c .before .before .before .before .before .before .before)) (no-fault (c .before .before .before .before .before)) _
+    (c .before .before .before .before .packet-at .ensures) _ (c .before .before .before .is-last .ensures) _ _
     (c .before .inner-codes .ensures) (c .residue-count .ensures) (not-false _ (c .before .before .if4 .left))
     ∙ fits (c .before .before .before .before .before .before .before .before)
 

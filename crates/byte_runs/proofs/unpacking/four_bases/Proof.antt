@@ -18,7 +18,12 @@ mul-result : tie.Need-mul-result
 mul-result c = omega (arith, and-le-r ((c .args) .bits / 16 + (c .args) .bits % 16 * 65536) 0x00030003)
 
 add-result : tie.Need-add-result
-add-result c = omega (arith, and-le-r (((c .args) .bits / 16 + (c .args) .bits % 16 * 65536) / 4) 0x00030003, and-le-r ((c .args) .bits / 16 + (c .args) .bits % 16 * 65536) 0x00030003)
+add-result c = omega (
+  arith,
+  and-le-r (((c .args) .bits / 16 + (c .args) .bits % 16 * 65536) / 4) 0x00030003,
+  and-le-r
+      ((c .args) .bits / 16 + (c .args) .bits % 16 * 65536) 0x00030003,
+)
 
 returns : tie.Need-returns
 returns c = four-bases ((c .args) .bits) ((c .pre))

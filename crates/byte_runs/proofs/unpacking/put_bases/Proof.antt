@@ -90,7 +90,8 @@ loop-again c =
     let x = (c .before .before .four-bases2) in
     let y = (c .before .four-bases3) in
     let z = (c .four-bases4) in
-    let t = codes-two (p .result) (ap isFiveBit (p .ensures) ∙ (c .before .before .before .before .before .before .before .before .before .pre) .1 (l .i) (omega arith)) in
+    let t = codes-two (p .result) (ap isFiveBit (p .ensures) ∙ (c .before .before .before .before .before .before .before .before .before .pre) .1
+    (l .i) (omega arith)) in
     let f : Fronts (codesIn (p .result)) (bytesOfFour (w .result) (x .result) (y .result) (z .result)) =
     rw t (two-front (p .result) (w .result) (x .result) (y .result) (z .result) (w .ensures) (x .ensures) (y .ensures) (z .ensures)) in (
       omega arith,
@@ -103,7 +104,12 @@ loop-again c =
     )
 
 loop2-holds : tie.Need-loop2-holds Inv-loop μ-loop Inv-loop2 μ-loop2
-loop2-holds c = (omega arith, begun-start (packetsOf (now ((c .before .before .before .before .args) .block))) 0 ((c .before .before .before .before .args) .at) ((c .before .before .before .before .args) .at + 241) (now ((c .before .before .before .before .args) .out)))
+loop2-holds c = (
+  omega arith,
+  begun-start (packetsOf (now ((c .before .before .before .before .args) .block))) 0
+      ((c .before .before .before .before .args) .at) ((c .before .before .before .before .args) .at + 241)
+      (now ((c .before .before .before .before .args) .out)),
+)
 
 mul-put-four : tie.Need-mul-put-four Inv-loop μ-loop Inv-loop2 μ-loop2
 mul-put-four c = search needs

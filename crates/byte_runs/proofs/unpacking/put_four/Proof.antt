@@ -42,8 +42,11 @@ returns c =
     ∙ ap (λ (l : List ℕ). writtenAt (a .at + 12) (littleBytes 4 (a .d)) l)
     ((c .before .before .before .before .before .before .store3) .ensures
     ∙ ap (λ (l : List ℕ). writtenAt (a .at + 8) (littleBytes 4 (a .c)) l)
-    ((c .before .before .before .before .before .before .before .before .before .before .store2) .ensures ∙ ap (λ (l : List ℕ). writtenAt (a .at + 4) (littleBytes 4 (a .b)) l) ((c .before .before .before .before .before .before .before .before .before .before .before .before .before .before .store) .ensures)))
-    ∙ fours-put (a .at) (littleBytes 4 (a .a)) (littleBytes 4 (a .b)) (littleBytes 4 (a .c)) (littleBytes 4 (a .d)) (now (a .out)) refl refl refl refl (c .before .before .before .before .before .before .before .before .before .before .before .before .before .before .before .before .before .pre)
+    ((c .before .before .before .before .before .before .before .before .before .before .store2) .ensures ∙ ap
+    (λ (l : List ℕ). writtenAt (a .at + 4) (littleBytes 4 (a .b)) l)
+    ((c .before .before .before .before .before .before .before .before .before .before .before .before .before .before .store) .ensures)))
+    ∙ fours-put (a .at) (littleBytes 4 (a .a)) (littleBytes 4 (a .b)) (littleBytes 4 (a .c)) (littleBytes 4 (a .d))
+    (now (a .out)) refl refl refl refl (c .before .before .before .before .before .before .before .before .before .before .before .before .before .before .before .before .before .pre)
 
 pub put-four-spec : {M : Type 1} → statement M
 put-four-spec =

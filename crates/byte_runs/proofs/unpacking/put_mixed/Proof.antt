@@ -155,7 +155,15 @@ put-four-requires c κs =
     let a = (c .before .before .before .before .before .before .before .args) in
     let m = (c .before .before .loop2) in
     let ps = packetsOf (now (a .block)) in
-    omega (arith, (c .before .before .before .before .before .before .before .pre) .1, m .inv .2 .size, m .inv .1, codes-within ps (m .j) 16 (omega arith), codes-count (getD ps (m .j) 0))
+    omega (
+      arith,
+      (c .before .before .before .before .before .before .before .pre) .1,
+      m .inv .2 .size,
+      m .inv .1,
+      codes-within ps (m .j) 16
+          (omega arith),
+      codes-count (getD ps (m .j) 0),
+    )
 
 packet-at-requires-2 : tie.Need-packet-at-requires-2 Inv-loop μ-loop Inv-loop2 μ-loop2
 packet-at-requires-2 c κs = omega (arith, (c .before .before .before .before .before .before .before .before .before .before .pre) .0)
@@ -168,8 +176,14 @@ add-at c =
     let a = (c .before .before .before .before .before .before .before .before .before .before .before .before .args) in
     let m = (c .before .before .before .before .before .before .before .loop2) in
     let ps = packetsOf (now (a .block)) in
-    let q : (c .code-count) .result ≡ length (codesIn (getD ps (m .j) 0)) = (c .code-count) .ensures ∙ ap (λ (x : ℕ). length (codesIn x)) ((c .before .packet-at2) .ensures) in
-    omega (arith, (c .before .before .before .before .before .before .before .before .before .before .before .before .pre) .1, m .inv .1, codes-within ps (m .j) 16 (omega arith))
+    let q : (c .code-count) .result ≡ length (codesIn (getD ps (m .j) 0)) = (c .code-count) .ensures ∙ ap (λ (x : ℕ). length (codesIn x))
+    ((c .before .packet-at2) .ensures) in
+    omega (
+      arith,
+      (c .before .before .before .before .before .before .before .before .before .before .before .before .pre) .1,
+      m .inv .1,
+      codes-within ps (m .j) 16 (omega arith),
+    )
 
 add-j : tie.Need-add-j Inv-loop μ-loop Inv-loop2 μ-loop2
 add-j c = search needs
@@ -183,12 +197,14 @@ loop2-again c =
     let l = (c .before .before .before .before .before .before .before .before .before .loop) in
     let m = (c .before .before .before .before .before .before .before .loop2) in
     let ps = packetsOf (now (a .block)) in
-    let q : (c .code-count) .result ≡ length (codesIn (getD ps (m .j) 0)) = (c .code-count) .ensures ∙ ap (λ (x : ℕ). length (codesIn x)) ((c .before .packet-at2) .ensures) in (
+    let q : (c .code-count) .result ≡ length (codesIn (getD ps (m .j) 0)) = (c .code-count) .ensures ∙ ap (λ (x : ℕ). length (codesIn x))
+    ((c .before .packet-at2) .ensures) in (
       omega arith,
       omega (arith, m .inv .1, count-next ps (m .j)),
       rw ((c .before .before .before .before .put-four) .ensures)
           (begun-more ps (m .j) (a .place) (m .at) (a .place + length (codesFrom ps 0 16) + 10) (now (a .out)) (m .out) _ (m .inv .2) (m .inv .1)
-          (l .inv .5 (m .j) (omega arith)) (omega (arith, m .inv .1, codes-within ps (m .j) 16 (omega arith), codes-count (getD ps (m .j) 0))) ((c .before .before .before .before .before .before .before .before .before .before .before .before .pre) .1)),
+          (l .inv .5 (m .j) (omega arith)) (omega (arith, m .inv .1, codes-within ps (m .j) 16 (omega arith), codes-count (getD ps (m .j) 0)))
+          ((c .before .before .before .before .before .before .before .before .before .before .before .before .pre) .1)),
     )
 
 same-length : tie.Need-same-length Inv-loop μ-loop Inv-loop2 μ-loop2
@@ -198,7 +214,8 @@ returns : tie.Need-returns Inv-loop μ-loop Inv-loop2 μ-loop2
 returns c =
     let m = (c .before .loop2) in
     let n : m .j ≡ 16 = omega arith in
-    let e : m .at ≡ (c .before .before .before .before .before .before .args) .place + length (codesFrom (packetsOf (now ((c .before .before .before .before .before .before .args) .block))) 0 16) = rw (← n) (m .inv .1) in
+    let e : m .at ≡ (c .before .before .before .before .before .before .args) .place + length
+    (codesFrom (packetsOf (now ((c .before .before .before .before .before .before .args) .block))) 0 16) = rw (← n) (m .inv .1) in
     (e, rw e (rw n at (m .inv .2)))
 
 pub put-mixed-spec : {M : Type 1} → statement M

@@ -26,7 +26,11 @@ put-six-requires : tie.Need-put-six-requires
 put-six-requires c κs = omega (arith, (c .before .before .before .before .before .before .pre), (c .before .before .before .before .code-count) .ensures)
 
 add-result : tie.Need-add-result
-add-result c = omega (arith, (c .before .before .before .before .before .before .before .before .before .pre), (c .before .before .before .before .before .before .before .code-count) .ensures)
+add-result c = omega (
+  arith,
+  (c .before .before .before .before .before .before .before .before .before .pre),
+  (c .before .before .before .before .before .before .before .code-count) .ensures,
+)
 
 same-length : tie.Need-same-length
 same-length c = search needs
@@ -47,15 +51,22 @@ decode-codes-requires : tie.Need-decode-codes-requires
 decode-codes-requires c κs = search needs
 
 add-result-2 : tie.Need-add-result-2
-add-result-2 c = omega (arith, (c .before .before .before .before .before .before .before .pre), (c .before .before .before .before .before .code-count) .ensures)
+add-result-2 c = omega (
+  arith,
+  (c .before .before .before .before .before .before .before .pre),
+  (c .before .before .before .before .before .code-count) .ensures,
+)
 
 same-length-2 : tie.Need-same-length-2
 same-length-2 c = search needs
 
 returns-2 : tie.Need-returns-2
 returns-2 c =
-    let a = (c .before .before .before .before .before .before .before .args) in
-    (omega (arith, (c .before .before .before .before .before .code-count) .ensures), (c .before .before .decode-codes) .ensures ∙ codes-put (a .packet) (a .at) (now (a .out)) (codesIn (a .packet)) refl (c .before .before .before .before .before .before .before .pre))
+    let a = (c .before .before .before .before .before .before .before .args) in (
+      omega (arith, (c .before .before .before .before .before .code-count) .ensures),
+      (c .before .before .decode-codes) .ensures ∙ codes-put
+          (a .packet) (a .at) (now (a .out)) (codesIn (a .packet)) refl (c .before .before .before .before .before .before .before .pre),
+    )
 
 pub put-one-spec : {M : Type 1} → statement M
 put-one-spec =

@@ -72,11 +72,17 @@ loop-again c =
       simp length-set (l .inv .2),
       two-more ps (l .i) (p .result) (p .ensures) (x .result) (y .result) (l .fours) (l .twos) (l .inv .3) (omega arith) (omega arith)
           (six-parts (p .result) (x .result) (y .result) (x .ensures) (y .ensures)
-          ∙ sym (codes-five (p .result) (ap isFiveBit (p .ensures) ∙ (c .before .before .before .before .before .before .before .pre) .1 (l .i) (omega arith)))),
+          ∙ sym (codes-five (p .result) (ap isFiveBit (p .ensures) ∙ (c .before .before .before .before .before .before .before .pre) .1 (l .i)
+          (omega arith)))),
     )
 
 loop2-holds : tie.Need-loop2-holds Inv-loop μ-loop Inv-loop2 μ-loop2
-loop2-holds c = (omega arith, begun-start (packetsOf (now ((c .before .before .before .before .args) .block))) 0 ((c .before .before .before .before .args) .at) ((c .before .before .before .before .args) .at + 96) (now ((c .before .before .before .before .args) .out)))
+loop2-holds c = (
+  omega arith,
+  begun-start (packetsOf (now ((c .before .before .before .before .args) .block))) 0
+      ((c .before .before .before .before .args) .at) ((c .before .before .before .before .args) .at + 96)
+      (now ((c .before .before .before .before .args) .out)),
+)
 
 mul-put-six : tie.Need-mul-put-six Inv-loop μ-loop Inv-loop2 μ-loop2
 mul-put-six c = search needs
@@ -115,7 +121,8 @@ loop2-again c =
       omega arith,
       rw ((c .before .before .put-six) .ensures)
           (begun-more ps (m .j) (a .at) (a .at + 6 * m .j) (a .at + 96) (now (a .out)) (m .out) _ (m .inv .1) (omega arith)
-          (front-is _ _ (l .inv .3 (m .j) (omega arith))) (omega arith) ((c .before .before .before .before .before .before .before .before .before .before .pre) .0 .1)),
+          (front-is _ _ (l .inv .3 (m .j) (omega arith))) (omega arith)
+          ((c .before .before .before .before .before .before .before .before .before .before .pre) .0 .1)),
     )
 
 same-length : tie.Need-same-length Inv-loop μ-loop Inv-loop2 μ-loop2
@@ -127,7 +134,8 @@ returns c =
     let m = (c .before .loop2) in
     let ps = packetsOf (now (a .block)) in
     let n : m .j ≡ 16 = omega arith in
-    begun-whole (a .at) (a .at + 96) (codesFrom ps 0 16) (now (a .out)) (m .out) (omega (arith, fives-count ps 16 16 ((c .before .before .before .before .before .before .pre) .1) (omega arith)))
+    begun-whole (a .at) (a .at + 96) (codesFrom ps 0 16) (now (a .out)) (m .out)
+    (omega (arith, fives-count ps 16 16 ((c .before .before .before .before .before .before .pre) .1) (omega arith)))
     (rw (← n) (m .inv .1))
 
 pub put-sixes-spec : {M : Type 1} → statement M

@@ -41,10 +41,22 @@ byte-of-requires : tie.Need-byte-of-requires Inv-loop μ-loop
 byte-of-requires c κs = search needs
 
 sub-put-block : tie.Need-sub-put-block Inv-loop μ-loop
-sub-put-block c = omega (arith, (c .byte-of) .ensures, (c .before .before .before .before .before .pre) .1, length-packets (now ((c .before .before .before .before .before .args) .bytes)))
+sub-put-block c = omega (
+  arith,
+  (c .byte-of) .ensures,
+  (c .before .before .before .before .before .pre) .1,
+  length-packets
+      (now ((c .before .before .before .before .before .args) .bytes)),
+)
 
 part-put-block-start : tie.Need-part-put-block-start Inv-loop μ-loop
-part-put-block-start c = omega (arith, (c .byte-of) .ensures, (c .before .before .before .before .before .pre) .1, length-packets (now ((c .before .before .before .before .before .args) .bytes)))
+part-put-block-start c = omega (
+  arith,
+  (c .byte-of) .ensures,
+  (c .before .before .before .before .before .pre) .1,
+  length-packets
+      (now ((c .before .before .before .before .before .args) .bytes)),
+)
 
 part-put-block-end : tie.Need-part-put-block-end Inv-loop μ-loop
 part-put-block-end c = search needs
@@ -57,16 +69,28 @@ put-block-requires c κs =
     let ps = packetsOf b in
     let n = length-packets b in
     let s = (c .before .before .byte-of) .result .0 in
-    let here : s ≡ 4 * (16 * l .i) = omega (arith, (c .before .before .byte-of) .ensures, (c .before .before .before .before .before .before .before .pre) .1) in
+    let here : s ≡ 4 * (16 * l .i) = omega (
+      arith,
+      (c .before .before .byte-of) .ensures,
+      (c .before .before .before .before .before .before .before .pre) .1,
+    ) in
     let behind : 16 * l .i + 16 + spare (a .alphabet) < length ps = omega (arith, (c .before .before .before .before .before .before .before .pre) .1) in
     let rest = part-rest b s in
     let codes : length (codesFrom (packetsOf (drop s b)) 0 16) ≡ length (codesFrom ps (16 * l .i) 16) = ap length (block-codes b (l .i) s here (omega arith)) in
     rw rest (
       (
         omega (arith, length-drop s b),
-        omega (arith, (c .before .before .before .before .before .before .before .pre) .0 .1, l .inv .1, l .inv .2 .size, block-room (a .alphabet) ps ((c .before .before .before .before .before .before .before .pre) .0 .0) (l .i) behind),
+        omega (
+          arith,
+          (c .before .before .before .before .before .before .before .pre) .0 .1,
+          l .inv .1,
+          l .inv .2 .size,
+          block-room
+              (a .alphabet) ps ((c .before .before .before .before .before .before .before .pre) .0 .0) (l .i) behind,
+        ),
       ),
-      λ t. block-fives b (l .i) s here (omega arith) (rw (eqb-true (a .alphabet) 3 t) at ((c .before .before .before .before .before .before .before .pre) .0 .0)) (omega arith),
+      λ t. block-fives b (l .i) s here (omega arith) (rw (eqb-true (a .alphabet) 3 t) at
+          ((c .before .before .before .before .before .before .before .pre) .0 .0)) (omega arith),
     )
 
 add-i : tie.Need-add-i Inv-loop μ-loop
@@ -83,15 +107,23 @@ loop-again c =
     let ps = packetsOf b in
     let n = length-packets b in
     let s = (c .before .before .before .before .before .byte-of) .result .0 in
-    let here : s ≡ 4 * (16 * l .i) = omega (arith, (c .before .before .before .before .before .byte-of) .ensures, (c .before .before .before .before .before .before .before .before .before .before .pre) .1) in
-    let behind : 16 * l .i + 16 + spare (a .alphabet) < length ps = omega (arith, (c .before .before .before .before .before .before .before .before .before .before .pre) .1) in
+    let here : s ≡ 4 * (16 * l .i) = omega (
+      arith,
+      (c .before .before .before .before .before .byte-of) .ensures,
+      (c .before .before .before .before .before .before .before .before .before .before .pre) .1,
+    ) in
+    let behind : 16 * l .i + 16 + spare (a .alphabet) < length ps = omega
+    (arith, (c .before .before .before .before .before .before .before .before .before .before .pre) .1) in
     let o = (c .before .before .put-block) in
-    let e : codesFrom (packetsOf (take (length b - s) (drop s b))) 0 16 ≡ codesFrom ps (16 * l .i) 16 = rw (part-rest b s) (block-codes b (l .i) s here (omega arith)) in
+    let e : codesFrom (packetsOf (take (length b - s) (drop s b))) 0 16 ≡ codesFrom ps (16 * l .i) 16 = rw (part-rest b s)
+    (block-codes b (l .i) s here (omega arith)) in
     let r : o .result ≡ length (codesFrom ps 0 (16 * l .i)) + length (codesFrom ps (16 * l .i) 16) = o .ensures .0 ∙ rw (e, l .inv .1) in (
       omega arith,
       r ∙ sym (block-count (a .alphabet) ps ((c .before .before .before .before .before .before .before .before .before .before .pre) .0 .0) (l .i) behind),
-      block-begun (a .alphabet) ps ((c .before .before .before .before .before .before .before .before .before .before .pre) .0 .0) (l .i) behind (length (unpacked ps)) (now (a .out)) (l .out) _
-          (block-room (a .alphabet) ps ((c .before .before .before .before .before .before .before .before .before .before .pre) .0 .0) (l .i) behind) (l .inv .2) (rw (r, e, l .inv .1) at (o .ensures .1)),
+      block-begun (a .alphabet) ps ((c .before .before .before .before .before .before .before .before .before .before .pre) .0 .0) (l .i) behind
+          (length (unpacked ps)) (now (a .out)) (l .out) _
+          (block-room (a .alphabet) ps ((c .before .before .before .before .before .before .before .before .before .before .pre) .0 .0)
+          (l .i) behind) (l .inv .2) (rw (r, e, l .inv .1) at (o .ensures .1)),
     )
 
 same-length : tie.Need-same-length Inv-loop μ-loop

@@ -15,7 +15,12 @@ use Rattle.byte_runs.proofs.unpacking.write_residues.Statement.{stateme
 use Rattle.byte_runs.proofs.unpacking.write_residues.Tie as tie
 
 sub-block-count : tie.Need-sub-block-count
-sub-block-count c = omega (arith, well-some ((c .before .before .args) .alphabet) _ ((c .before .before .pre) .0), length-packets (now ((c .before .before .args) .bytes)))
+sub-block-count c = omega (
+  arith,
+  well-some ((c .before .before .args) .alphabet) _ ((c .before .before .pre) .0),
+  length-packets
+      (now ((c .before .before .args) .bytes)),
+)
 
 block-count-requires : tie.Need-block-count-requires
 block-count-requires c κs = search needs
@@ -34,8 +39,17 @@ write-rest-requires c κs =
     let ps = packetsOf (now (a .bytes)) in
     let n = 16 * (c .before .before .before .before .before .block-count) .result in
     let some = well-some (a .alphabet) ps ((c .before .before .before .before .before .before .before .before .pre) .0) in
-    let h : n < length ps = omega (arith, (c .before .before .before .before .before .block-count) .ensures, length-packets (now (a .bytes))) in
-    (((c .before .before .before .before .before .before .before .before .pre) .0, h), omega (arith, (c .before .before .before .before .before .before .before .before .pre) .1, (c .before .before .before .write-blocks) .ensures .0, (c .before .before .before .write-blocks) .ensures .1 .size, first-count (a .alphabet) ps ((c .before .before .before .before .before .before .before .before .pre) .0) n h))
+    let h : n < length ps = omega (arith, (c .before .before .before .before .before .block-count) .ensures, length-packets (now (a .bytes))) in (
+      ((c .before .before .before .before .before .before .before .before .pre) .0, h),
+      omega (
+        arith,
+        (c .before .before .before .before .before .before .before .before .pre) .1,
+        (c .before .before .before .write-blocks) .ensures .0,
+        (c .before .before .before .write-blocks) .ensures .1 .size,
+        first-count (a .alphabet) ps
+            ((c .before .before .before .before .before .before .before .before .pre) .0) n h,
+      ),
+    )
 
 same-length : tie.Need-same-length
 same-length c = search needs
@@ -46,9 +60,18 @@ returns c =
     let ps = packetsOf (now (a .bytes)) in
     let n = 16 * (c .before .before .before .before .before .before .before .before .block-count) .result in
     let some = well-some (a .alphabet) ps ((c .before .before .before .before .before .before .before .before .before .before .before .pre) .0) in
-    let h : n < length ps = omega (arith, (c .before .before .before .before .before .before .before .before .block-count) .ensures, length-packets (now (a .bytes))) in
+    let h : n < length ps = omega (
+      arith,
+      (c .before .before .before .before .before .before .before .before .block-count) .ensures,
+      length-packets
+          (now (a .bytes)),
+    ) in
     (c .before .before .write-rest) .ensures
-    ∙ written-split (a .alphabet) ps ((c .before .before .before .before .before .before .before .before .before .before .before .pre) .0) n h (now (a .out)) _ ((c .before .before .before .before .before .before .write-blocks) .result) ((c .before .before .before .before .before .before .before .before .before .before .before .pre) .1) ((c .before .before .before .before .before .before .write-blocks) .ensures .0) ((c .before .before .before .before .before .before .write-blocks) .ensures .1)
+    ∙ written-split (a .alphabet) ps ((c .before .before .before .before .before .before .before .before .before .before .before .pre) .0) n h
+    (now (a .out)) _ ((c .before .before .before .before .before .before .write-blocks) .result)
+    ((c .before .before .before .before .before .before .before .before .before .before .before .pre) .1)
+    ((c .before .before .before .before .before .before .write-blocks) .ensures .0)
+    ((c .before .before .before .before .before .before .write-blocks) .ensures .1)
 
 pub write-residues-spec : {M : Type 1} → statement M
 write-residues-spec =

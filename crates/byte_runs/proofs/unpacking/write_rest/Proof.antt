@@ -54,7 +54,8 @@ put-one-requires c κs =
       arith,
       (c .before .before .before .before .before .before .pre) .1,
       l .inv .2 .size,
-      behind-room (a .alphabet) ps ((c .before .before .before .before .before .before .pre) .0 .0) (a .from) (a .place) (now (a .out)) ((c .before .before .before .before .before .before .pre) .1) (l .done) (p .result) (l .at)
+      behind-room (a .alphabet) ps ((c .before .before .before .before .before .before .pre) .0 .0) (a .from) (a .place) (now (a .out))
+          ((c .before .before .before .before .before .before .pre) .1) (l .done) (p .result) (l .at)
           (p .ensures) (l .inv .1) (l .out) (l .inv .2) (omega (arith, length-packets (now (a .bytes)))),
     )
 
@@ -77,10 +78,14 @@ loop-again c =
           ∙ omega (
             arith,
             l .inv .1,
-            behind-count (a .alphabet) ps ((c .before .before .before .before .before .before .before .before .before .pre) .0 .0) (a .from) (a .place) (now (a .out)) ((c .before .before .before .before .before .before .before .before .before .pre) .1) (l .done) (p .result) (l .at)
+            behind-count (a .alphabet) ps ((c .before .before .before .before .before .before .before .before .before .pre) .0 .0) (a .from)
+                (a .place) (now (a .out)) ((c .before .before .before .before .before .before .before .before .before .pre) .1) (l .done) (p .result)
+                (l .at)
                 (p .ensures) (l .inv .1) (l .out) (l .inv .2),
           ),
-      rw (o .ensures .1) (behind-more (a .alphabet) ps ((c .before .before .before .before .before .before .before .before .before .pre) .0 .0) (a .from) (a .place) (now (a .out)) ((c .before .before .before .before .before .before .before .before .before .pre) .1) (l .done) (p .result) (l .at)
+      rw (o .ensures .1) (behind-more (a .alphabet) ps ((c .before .before .before .before .before .before .before .before .before .pre) .0 .0)
+          (a .from) (a .place) (now (a .out)) ((c .before .before .before .before .before .before .before .before .before .pre) .1) (l .done)
+          (p .result) (l .at)
           (p .ensures) (l .inv .1) (l .out) (l .inv .2) h),
     )
 
@@ -109,10 +114,12 @@ returns c =
       arith,
       (c .before .before .before .before .before .before .before .before .before .pre) .1,
       l .inv .2 .size,
-      last-room (a .alphabet) ps ((c .before .before .before .before .before .before .before .before .before .pre) .0 .0) (a .from) (a .place) (now (a .out)) ((c .before .before .before .before .before .before .before .before .before .pre) .1) (l .done) (p .result) (l .at)
+      last-room (a .alphabet) ps ((c .before .before .before .before .before .before .before .before .before .pre) .0 .0) (a .from) (a .place)
+          (now (a .out)) ((c .before .before .before .before .before .before .before .before .before .pre) .1) (l .done) (p .result) (l .at)
           (p .ensures) (l .inv .1) (l .out) (l .inv .2) h,
     ))
-    ∙ behind-last (a .alphabet) ps ((c .before .before .before .before .before .before .before .before .before .pre) .0 .0) (a .from) (a .place) (now (a .out)) ((c .before .before .before .before .before .before .before .before .before .pre) .1) (l .done) (p .result) (l .at)
+    ∙ behind-last (a .alphabet) ps ((c .before .before .before .before .before .before .before .before .before .pre) .0 .0) (a .from) (a .place)
+    (now (a .out)) ((c .before .before .before .before .before .before .before .before .before .pre) .1) (l .done) (p .result) (l .at)
     (p .ensures) (l .inv .1) (l .out) (l .inv .2) h
 
 pub write-rest-spec : {M : Type 1} → statement M

@@ -19,7 +19,11 @@ wide-requires : tie.Need-wide-requires
 wide-requires c κs = search needs
 
 returns-2 : tie.Need-returns-2
-returns-2 c = ((c .wide) .ensures .0 ∙ code-inside (now ((c .before .before .before .before .args) .next)) ((c .before .before .before .before .args) .k) (omega arith), (c .wide) .ensures .1)
+returns-2 c = (
+  (c .wide) .ensures .0 ∙ code-inside (now ((c .before .before .before .before .args) .next))
+      ((c .before .before .before .before .args) .k) (omega arith),
+  (c .wide) .ensures .1,
+)
 
 pub code-or-fill-spec : {M : Type 1} → statement M
 code-or-fill-spec = tie.close (tie.spec returns shared-slice-read-wide wide-requires returns-2)

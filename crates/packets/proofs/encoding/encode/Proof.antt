@@ -16,7 +16,8 @@ end-bit-requires : tie.Need-end-bit-requires
 end-bit-requires c κs = search needs
 
 two-bit-requires : tie.Need-two-bit-requires
-two-bit-requires c κs = two-plain ((c .before .before .before .before .args) .alphabet) (now ((c .before .before .before .before .args) .next)) (sym ((c .before .before .is-two-bit) .ensures) ∙ (c .before .if1) .taken) .1
+two-bit-requires c κs = two-plain ((c .before .before .before .before .args) .alphabet) (now ((c .before .before .before .before .args) .next))
+    (sym ((c .before .before .is-two-bit) .ensures) ∙ (c .before .if1) .taken) .1
 
 add-whole : tie.Need-add-whole
 add-whole c = search needs
@@ -28,7 +29,8 @@ returns : tie.Need-returns
 returns c = let a = (c .before .before .before .before .before .args) in
     let cs = now (a .next) in
     let t = sym ((c .before .before .before .is-two-bit) .ensures) ∙ (c .before .before .if1) .taken in
-    let w : (c .before .end-bit) .result + (c .two-bit) .result ≡ packetOf (a .alphabet) cs (a .left) = rw ((c .before .end-bit) .ensures .0, (c .two-bit) .ensures .0) (sym (packet-two (a .alphabet) cs (a .left) t)) in
+    let w : (c .before .end-bit) .result + (c .two-bit) .result ≡ packetOf (a .alphabet) cs (a .left) = rw
+    ((c .before .end-bit) .ensures .0, (c .two-bit) .ensures .0) (sym (packet-two (a .alphabet) cs (a .left) t)) in
     (ap (λ (x : ℕ). x % 4294967296) w, sym (size-two (a .alphabet) cs (a .left) t))
 
 end-bit-requires-2 : tie.Need-end-bit-requires-2
@@ -47,7 +49,8 @@ returns-2 : tie.Need-returns-2
 returns-2 c = let a = (c .before .before .before .before .before .before .args) in
     let cs = now (a .next) in
     let f = sym ((c .before .before .before .before .is-two-bit) .ensures) ∙ (c .before .before .before .if1) .left in
-    let w : (c .before .before .end-bit2) .result + (c .before .five-bit) .result ≡ packetOf (a .alphabet) cs (a .left) = rw ((c .before .before .end-bit2) .ensures .0, (c .before .five-bit) .ensures .0) (sym (packet-five (a .alphabet) cs (a .left) f)) in
+    let w : (c .before .before .end-bit2) .result + (c .before .five-bit) .result ≡ packetOf (a .alphabet) cs (a .left) = rw
+    ((c .before .before .end-bit2) .ensures .0, (c .before .five-bit) .ensures .0) (sym (packet-five (a .alphabet) cs (a .left) f)) in
     let s = size-five (a .alphabet) cs (a .left) f in
     (ap (λ (x : ℕ). x % 4294967296) w, omega arith)
 
@@ -55,7 +58,8 @@ returns-3 : tie.Need-returns-3
 returns-3 c = let a = (c .before .before .before .before .before .before .args) in
     let cs = now (a .next) in
     let f = sym ((c .before .before .before .before .is-two-bit) .ensures) ∙ (c .before .before .before .if1) .left in
-    let w : (c .before .before .end-bit2) .result + (c .before .five-bit) .result ≡ packetOf (a .alphabet) cs (a .left) = rw ((c .before .before .end-bit2) .ensures .0, (c .before .five-bit) .ensures .0) (sym (packet-five (a .alphabet) cs (a .left) f)) in
+    let w : (c .before .before .end-bit2) .result + (c .before .five-bit) .result ≡ packetOf (a .alphabet) cs (a .left) = rw
+    ((c .before .before .end-bit2) .ensures .0, (c .before .five-bit) .ensures .0) (sym (packet-five (a .alphabet) cs (a .left) f)) in
     let s = size-five (a .alphabet) cs (a .left) f in
     (ap (λ (x : ℕ). x % 4294967296) w, omega arith)
 

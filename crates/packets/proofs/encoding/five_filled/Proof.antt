@@ -58,8 +58,22 @@ add-result-6 : tie.Need-add-result-6
 add-result-6 c = search needs
 
 returns : tie.Need-returns
-returns c = let cs = now ((c .before .before .before .before .before .before .before .args) .next) in
-    (five-sum cs ((c .before .before .before .before .before .code-or-fill) .result) ((c .before .before .before .before .code-or-fill2) .result) ((c .before .before .before .code-or-fill3) .result) ((c .before .before .code-or-fill4) .result) ((c .before .code-or-fill5) .result) ((c .code-or-fill6) .result) ((c .before .before .before .before .before .code-or-fill) .ensures .0) ((c .before .before .before .before .code-or-fill2) .ensures .0) ((c .before .before .before .code-or-fill3) .ensures .0) ((c .before .before .code-or-fill4) .ensures .0) ((c .before .code-or-fill5) .ensures .0) ((c .code-or-fill6) .ensures .0), omega (arith, (c .before .before .before .before .before .code-or-fill) .ensures .1, (c .before .before .before .before .code-or-fill2) .ensures .1, (c .before .before .before .code-or-fill3) .ensures .1, (c .before .before .code-or-fill4) .ensures .1, (c .before .code-or-fill5) .ensures .1, (c .code-or-fill6) .ensures .1))
+returns c = let cs = now ((c .before .before .before .before .before .before .before .args) .next) in (
+  five-sum cs ((c .before .before .before .before .before .code-or-fill) .result) ((c .before .before .before .before .code-or-fill2) .result)
+      ((c .before .before .before .code-or-fill3) .result) ((c .before .before .code-or-fill4) .result) ((c .before .code-or-fill5) .result)
+      ((c .code-or-fill6) .result) ((c .before .before .before .before .before .code-or-fill) .ensures .0)
+      ((c .before .before .before .before .code-or-fill2) .ensures .0) ((c .before .before .before .code-or-fill3) .ensures .0)
+      ((c .before .before .code-or-fill4) .ensures .0) ((c .before .code-or-fill5) .ensures .0) ((c .code-or-fill6) .ensures .0),
+  omega (
+    arith,
+    (c .before .before .before .before .before .code-or-fill) .ensures .1,
+    (c .before .before .before .before .code-or-fill2) .ensures .1,
+    (c .before .before .before .code-or-fill3) .ensures .1,
+    (c .before .before .code-or-fill4) .ensures .1,
+    (c .before .code-or-fill5) .ensures .1,
+    (c .code-or-fill6) .ensures .1,
+  ),
+)
 
 pub five-filled-spec : {M : Type 1} → statement M
 five-filled-spec =

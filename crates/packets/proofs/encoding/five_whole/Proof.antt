@@ -77,8 +77,35 @@ add-result-6 : tie.Need-add-result-6
 add-result-6 c = search needs
 
 returns : tie.Need-returns
-returns c = let cs = now ((c .before .before .before .before .before .before .before .before .before .before .before .before .before .args) .next) in
-    (five-sum cs ((c .before .before .before .before .before .before .before .before .before .before .wide) .result) ((c .before .before .before .before .before .before .before .before .wide2) .result) ((c .before .before .before .before .before .before .wide3) .result) ((c .before .before .before .before .wide4) .result) ((c .before .before .wide5) .result) ((c .wide6) .result) ((c .before .before .before .before .before .before .before .before .before .before .wide) .ensures .0 ∙ code-inside cs 0 (omega (arith, (c .before .before .before .before .before .before .before .before .before .before .before .before .before .pre)))) ((c .before .before .before .before .before .before .before .before .wide2) .ensures .0 ∙ code-inside cs 1 (omega (arith, (c .before .before .before .before .before .before .before .before .before .before .before .before .before .pre)))) ((c .before .before .before .before .before .before .wide3) .ensures .0 ∙ code-inside cs 2 (omega (arith, (c .before .before .before .before .before .before .before .before .before .before .before .before .before .pre)))) ((c .before .before .before .before .wide4) .ensures .0 ∙ code-inside cs 3 (omega (arith, (c .before .before .before .before .before .before .before .before .before .before .before .before .before .pre)))) ((c .before .before .wide5) .ensures .0 ∙ code-inside cs 4 (omega (arith, (c .before .before .before .before .before .before .before .before .before .before .before .before .before .pre)))) ((c .wide6) .ensures .0 ∙ code-inside cs 5 (omega (arith, (c .before .before .before .before .before .before .before .before .before .before .before .before .before .pre)))), omega (arith, (c .before .before .before .before .before .before .before .before .before .before .wide) .ensures .1, (c .before .before .before .before .before .before .before .before .wide2) .ensures .1, (c .before .before .before .before .before .before .wide3) .ensures .1, (c .before .before .before .before .wide4) .ensures .1, (c .before .before .wide5) .ensures .1, (c .wide6) .ensures .1))
+returns c = let cs = now ((c .before .before .before .before .before .before .before .before .before .before .before .before .before .args) .next) in (
+  five-sum cs ((c .before .before .before .before .before .before .before .before .before .before .wide) .result)
+      ((c .before .before .before .before .before .before .before .before .wide2) .result)
+      ((c .before .before .before .before .before .before .wide3) .result) ((c .before .before .before .before .wide4) .result)
+      ((c .before .before .wide5) .result) ((c .wide6) .result)
+      ((c .before .before .before .before .before .before .before .before .before .before .wide) .ensures .0 ∙ code-inside cs 0
+      (omega (arith, (c .before .before .before .before .before .before .before .before .before .before .before .before .before .pre))))
+      ((c .before .before .before .before .before .before .before .before .wide2) .ensures .0 ∙ code-inside cs 1
+      (omega (arith, (c .before .before .before .before .before .before .before .before .before .before .before .before .before .pre))))
+      ((c .before .before .before .before .before .before .wide3) .ensures .0 ∙ code-inside cs 2
+      (omega (arith, (c .before .before .before .before .before .before .before .before .before .before .before .before .before .pre))))
+      ((c .before .before .before .before .wide4) .ensures .0 ∙ code-inside cs 3
+      (omega (arith, (c .before .before .before .before .before .before .before .before .before .before .before .before .before .pre))))
+      ((c .before .before .wide5) .ensures .0 ∙ code-inside cs 4 (omega (
+        arith,
+        (c .before .before .before .before .before .before .before .before .before .before .before .before .before .pre),
+      )))
+      ((c .wide6) .ensures .0 ∙ code-inside cs 5
+      (omega (arith, (c .before .before .before .before .before .before .before .before .before .before .before .before .before .pre)))),
+  omega (
+    arith,
+    (c .before .before .before .before .before .before .before .before .before .before .wide) .ensures .1,
+    (c .before .before .before .before .before .before .before .before .wide2) .ensures .1,
+    (c .before .before .before .before .before .before .wide3) .ensures .1,
+    (c .before .before .before .before .wide4) .ensures .1,
+    (c .before .before .wide5) .ensures .1,
+    (c .wide6) .ensures .1,
+  ),
+)
 
 pub five-whole-spec : {M : Type 1} → statement M
 five-whole-spec =

@@ -14,7 +14,8 @@ plain-next-requires : tie.Need-plain-next-requires
 plain-next-requires c κs = search needs
 
 returns-2 : tie.Need-returns-2
-returns-2 c = (c .plain-next) .ensures ∙ sym (plain-two ((c .before .before .before .args) .alphabet) (now ((c .before .before .before .args) .next)) (ne-eqb _ _ ((c .before .if1) .left)))
+returns-2 c = (c .plain-next) .ensures ∙ sym (plain-two ((c .before .before .before .args) .alphabet)
+    (now ((c .before .before .before .args) .next)) (ne-eqb _ _ ((c .before .if1) .left)))
 
 pub is-two-bit-spec : {M : Type 1} → statement M
 is-two-bit-spec = tie.close (tie.spec returns plain-next-requires returns-2)

@@ -50,7 +50,8 @@ loop-again c =
     let l = (c .before .loop) in
     let f : ℕ → ℕ = λ i. proteinCode (byteFrom (now (a .sequence)) (a .start) (a .k + i)) in
     let x = getD ((c .before .before .sixteen-codes) .result) (l .j) 0 in
-    let code : x ≡ f (l .j) = ap (λ (codes : List ℕ). getD codes (l .j) 0) ((c .before .before .sixteen-codes) .ensures) ∙ listTo-at f 16 (l .j) 0 (omega arith) in (
+    let code : x ≡ f (l .j) = ap (λ (codes : List ℕ). getD codes (l .j) 0) ((c .before .before .sixteen-codes) .ensures) ∙ listTo-at f 16 (l .j) 0
+    (omega arith) in (
       omega arith,
       simp length-set (l .inv .1),
       ap (λ (o : List ℕ). set o (a .k + l .j) x) (l .inv .2) ∙ store-next f (a .k) (l .j) x (now (a .out)) (omega arith) code,

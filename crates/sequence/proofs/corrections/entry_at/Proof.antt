@@ -43,7 +43,8 @@ part-be-u64-start : tie.Need-part-be-u64-start
 part-be-u64-start c = search needs
 
 part-be-u64-end : tie.Need-part-be-u64-end
-part-be-u64-end c = let e = width-eight ((c .before .before .args) .w) ((c .before .before .pre) .0) ((c .if1) .left) in omega (arith, (c .before .before .pre) .1)
+part-be-u64-end c = let e = width-eight ((c .before .before .args) .w) ((c .before .before .pre) .0) ((c .if1) .left) in omega
+    (arith, (c .before .before .pre) .1)
 
 be-u64-requires : tie.Need-be-u64-requires
 be-u64-requires c κs = search needs

@@ -49,7 +49,8 @@ returns-3 c =
     let all : a .n - 8 + 8 ≡ a .n = omega arith in
     (c .before .before .fill4) .ensures
     ∙ ap (λ (o : List ℕ). writtenAt place (listTo f 8) o) ((c .before .before .before .before .before .before .fill3) .ensures)
-    ∙ store-block f (a .start) (a .n - 8) 8 8 (now (a .out)) (omega arith) (omega arith) (omega (arith, (c .before .before .before .before .before .before .before .before .before .before .before .pre)))
+    ∙ store-block f (a .start) (a .n - 8) 8 8 (now (a .out)) (omega arith) (omega arith)
+    (omega (arith, (c .before .before .before .before .before .before .before .before .before .before .before .pre)))
     ∙ ap (λ (m : ℕ). writtenAt (a .start) (listTo f m) (now (a .out))) all
 
 pub paint-spec : {M : Type 1} → statement M

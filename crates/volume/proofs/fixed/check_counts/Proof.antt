@@ -29,12 +29,14 @@ number-natural c =
     let s = c .before .before .before in
     c .not-negative-at .ensures ∙ ap (λ (x : ℕ). nonNeg (signedAt big 4 (index s) x)) (s .pre .0)
 
-residues-natural : (c : tie.After-not-negative-wide-at) → c .not-negative-wide-at .result ≡ nonNeg (statedResidues (index (c .before .before .before .before .before .before .before)))
+residues-natural : (c : tie.After-not-negative-wide-at) → c .not-negative-wide-at .result ≡ nonNeg
+    (statedResidues (index (c .before .before .before .before .before .before .before)))
 residues-natural c =
     let s = c .before .before .before .before .before .before .before in
     c .not-negative-wide-at .ensures ∙ ap (λ (x : ℕ). nonNeg (signedAt little 8 (index s) (x + 4))) (s .pre .0)
 
-longest-natural : (c : tie.After-not-negative-at2) → c .not-negative-at2 .result ≡ nonNeg (statedLongest (index (c .before .before .before .before .before .before .before .before .before .before)))
+longest-natural : (c : tie.After-not-negative-at2) → c .not-negative-at2 .result ≡ nonNeg
+    (statedLongest (index (c .before .before .before .before .before .before .before .before .before .before)))
 longest-natural c =
     let s = c .before .before .before .before .before .before .before .before .before .before in
     c .not-negative-at2 .ensures ∙ ap (λ (x : ℕ). nonNeg (signedAt big 4 (index s) (x + 12))) (s .pre .0)

@@ -42,7 +42,8 @@ returns : tie.Need-returns
 unfolding indexRules
 returns c =
     let index = now ((c .before .before .before .before .before .before .before .args) .index) in
-    sym (refused-first (titleRules index) (timestampRules index ++ countRules index ++ tableRules index) _ _ ((c .before .before .before .check-title) .ensures) ((c .before .r) .given .1) Refused Passed)
+    sym (refused-first (titleRules index) (timestampRules index ++ countRules index ++ tableRules index) _ _
+    ((c .before .before .before .check-title) .ensures) ((c .before .r) .given .1) Refused Passed)
 
 enum-told : tie.Need-enum-told
 enum-told c = search needs
@@ -61,8 +62,11 @@ returns-2 : tie.Need-returns-2
 unfolding indexRules
 returns-2 c =
     let index = now ((c .before .before .before .before .before .before .before .before .before .before .args) .index) in
-    sym (passed-first (titleRules index) (timestampRules index ++ countRules index ++ tableRules index) _ ((c .before .before .before .before .before .before .check-title) .ensures) ((c .before .before .before .before .enum-told) .given .1) Refused Passed
-    ∙ refused-first (timestampRules index) (countRules index ++ tableRules index) _ _ ((c .before .before .before .check-timestamp) .ensures) ((c .before .r2) .given .1) Refused Passed)
+    sym (passed-first (titleRules index) (timestampRules index ++ countRules index ++ tableRules index) _
+    ((c .before .before .before .before .before .before .check-title) .ensures)
+    ((c .before .before .before .before .enum-told) .given .1) Refused Passed
+    ∙ refused-first (timestampRules index) (countRules index ++ tableRules index) _ _ ((c .before .before .before .check-timestamp) .ensures)
+    ((c .before .r2) .given .1) Refused Passed)
 
 enum-told-2 : tie.Need-enum-told-2
 enum-told-2 c = search needs
@@ -81,8 +85,12 @@ returns-3 : tie.Need-returns-3
 unfolding indexRules
 returns-3 c =
     let index = now ((c .before .before .before .before .before .before .before .before .before .before .before .before .before .args) .index) in
-    sym (passed-first (titleRules index) (timestampRules index ++ countRules index ++ tableRules index) _ ((c .before .before .before .before .before .before .before .before .before .check-title) .ensures) ((c .before .before .before .before .before .before .before .enum-told) .given .1) Refused Passed
-    ∙ passed-first (timestampRules index) (countRules index ++ tableRules index) _ ((c .before .before .before .before .before .before .check-timestamp) .ensures) ((c .before .before .before .before .enum-told2) .given .1) Refused Passed
+    sym (passed-first (titleRules index) (timestampRules index ++ countRules index ++ tableRules index) _
+    ((c .before .before .before .before .before .before .before .before .before .check-title) .ensures)
+    ((c .before .before .before .before .before .before .before .enum-told) .given .1) Refused Passed
+    ∙ passed-first (timestampRules index) (countRules index ++ tableRules index) _
+    ((c .before .before .before .before .before .before .check-timestamp) .ensures)
+    ((c .before .before .before .before .enum-told2) .given .1) Refused Passed
     ∙ refused-first (countRules index) (tableRules index) _ _ ((c .before .before .before .check-counts) .ensures) ((c .before .r3) .given .1) Refused Passed)
 
 enum-told-3 : tie.Need-enum-told-3
@@ -99,9 +107,14 @@ unfolding indexRules
 returns-4 c =
     let index = now ((c .before .before .before .before .before .before .before .before .before .before .before .before .before .before .args) .index) in
     (c .check-tables) .ensures
-    ∙ sym (passed-first (titleRules index) (timestampRules index ++ countRules index ++ tableRules index) _ ((c .before .before .before .before .before .before .before .before .before .before .check-title) .ensures) ((c .before .before .before .before .before .before .before .before .enum-told) .given .1) Refused Passed
-    ∙ passed-first (timestampRules index) (countRules index ++ tableRules index) _ ((c .before .before .before .before .before .before .before .check-timestamp) .ensures) ((c .before .before .before .before .before .enum-told2) .given .1) Refused Passed
-    ∙ passed-first (countRules index) (tableRules index) _ ((c .before .before .before .before .check-counts) .ensures) ((c .before .before .enum-told3) .given .1) Refused Passed)
+    ∙ sym (passed-first (titleRules index) (timestampRules index ++ countRules index ++ tableRules index) _
+    ((c .before .before .before .before .before .before .before .before .before .before .check-title) .ensures)
+    ((c .before .before .before .before .before .before .before .before .enum-told) .given .1) Refused Passed
+    ∙ passed-first (timestampRules index) (countRules index ++ tableRules index) _
+    ((c .before .before .before .before .before .before .before .check-timestamp) .ensures)
+    ((c .before .before .before .before .before .enum-told2) .given .1) Refused Passed
+    ∙ passed-first (countRules index) (tableRules index) _ ((c .before .before .before .before .check-counts) .ensures)
+    ((c .before .before .enum-told3) .given .1) Refused Passed)
 
 pub check-index-spec : {M : Type 1} → statement M
 check-index-spec =

@@ -67,7 +67,9 @@ add-t17 c = search needs
 
 returns : tie.Need-returns
 returns c =
-    numbers-read (now ((c .before .before .before .before .before .before .before .args) .index)) _ _ _ _ _ _ ((c .before .before .volume-type) .ensures) ((c .before .before .before .before .before .title-length) .ensures .0) ((c .before .before .before .before .natural-at) .ensures .0)
+    numbers-read (now ((c .before .before .before .before .before .before .before .args) .index)) _ _ _ _ _ _
+    ((c .before .before .volume-type) .ensures) ((c .before .before .before .before .before .title-length) .ensures .0)
+    ((c .before .before .before .before .natural-at) .ensures .0)
     ((c .before .before .before .natural-at2) .ensures .0) ((c .before .natural-wide-at) .ensures) ((c .natural-at3) .ensures .0)
 
 pub numbers-spec : {M : Type 1} → statement M

@@ -4,7 +4,7 @@ use Prim.Native.Nat.{ℕ, _+_}
 use denote.Ref.{now}
 use Rattle.laws.specs.Signed.{toNat}
 use Rattle.fields.specs.Number.{little, signedAt}
-use Rattle.volume.specs.Index.{residues}
+use Rattle.volume.specs.Index.{residueCount}
 use borrow.Author.Needs.{needs}
 use Rattle.volume.proofs.fixed.residue_count.Statement.{statement}
 use Rattle.volume.proofs.fixed.residue_count.Tie as tie
@@ -19,7 +19,7 @@ natural-wide-at-requires : tie.Need-natural-wide-at-requires
 natural-wide-at-requires c κs = search needs
 
 returns : tie.Need-returns
-unfolding residues
+unfolding residueCount
 returns c =
     let a = c .before .before .before .args in
     (c .natural-wide-at) .ensures ∙ ap (λ (x : ℕ). toNat (signedAt little 8 (now (a .index)) (x + 4))) ((c .before .timestamp-end) .ensures .0)
