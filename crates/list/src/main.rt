@@ -3,6 +3,8 @@
 use libc::STDERR_FILENO;
 use libc::STDOUT_FILENO;
 use listing::LISTING_ROOM;
+ghost use Prim.Native.Nat.{_+_, _≤_, _<_};
+ghost use lib.ListN.{length};
 ghost use Rattle.io.specs.Counts.{Counts};
 
 // One byte more than is listed of a file, so that a larger file is known.
@@ -23,10 +25,54 @@ fn put_usage(fd: i32) {
     io::write_all(fd, b"then the number and the length of each sequence.\n");
 }
 
+// A hexadecimal digit.
+fn digit(n: u8) -> u8
+    requires { ⌜ n < 16 ⌝ }
+{
+    if n < 10 {
+        return b'0' + n;
+    }
+    b'a' + (n - 10)
+}
+
+// Writes a byte of a name as it is shown: one that is not printable, a quote and a backslash are \xNN.
+fn put_shown(b: u8, shown: &mut [u8], at: usize) -> usize
+    requires { ⌜ at + 4 ≤ length (now shown) ⌝ }
+    ensures { λ r. ⌜ r ≤ at + 4 ⌝ }
+{
+    if 32 <= b && b < 127 && b != b'"' && b != b'\\' {
+        shown[at] = b;
+        return at + 1;
+    }
+    shown[at] = b'\\';
+    shown[at + 1] = b'x';
+    shown[at + 2] = digit(b / 16);
+    shown[at + 3] = digit(b % 16);
+    at + 4
+}
+
+// A name as it is shown, so that no name can forge a line or reach the terminal; how many bytes it takes.
+fn show(name: &[u8], shown: &mut [u8]) -> usize
+    ensures { λ r. ⌜ r ≤ length (now (shown .exit)) ⌝ }
+{
+    let mut at = 0;
+    let mut i = 0;
+    while i < name.len() {
+        if shown.len() - at < 4 {
+            return at;
+        }
+        at = put_shown(name[i], shown, at);
+        i += 1;
+    }
+    at
+}
+
 // Tells what failed, by its name, and why.
 fn tell(name: &[u8]) {
+    let mut shown = [0u8; 16384];
+    let n = show(name, &mut shown);
     io::write_all(STDERR_FILENO, b"list: ");
-    os::fail(name);
+    os::fail(&shown[..n]);
 }
 
 // Reads until the range is full, the file ends or a read fails.
