@@ -107,18 +107,19 @@ pub fn pack_answer(alphabet: u32, codes: &[u8], room: u64, place: PacketPos) -> 
 }
 
 // Writes a run into a buffer from a place on.
-fn write_run(alphabet: u32, codes: &[u8], packets: &mut [u32], place: usize) -> usize
-    requires { ⌜ (validCodes alphabet (now codes) ≡ true) × (place + length (run alphabet (now codes)) ≤ length (now packets)) ⌝ }
+fn write_run(alphabet: u32, codes: &[u8], buffer: &mut [u32], place: PacketPos) -> usize
+    requires { ⌜ (validCodes alphabet (now codes) ≡ true) × (place .0 + length (run alphabet (now codes)) ≤ length (now buffer)) ⌝ }
     ensures count { λ r. ⌜ r ≡ length (run alphabet (now (codes .entry))) ⌝ }
-    ensures packets { λ _. ⌜ now (packets .exit) ≡ writtenAt place (run alphabet (now (codes .entry))) (now (packets .entry)) ⌝ }
+    ensures packets { λ _. ⌜ now (buffer .exit) ≡ writtenAt (place .0) (run alphabet (now (codes .entry))) (now (buffer .entry)) ⌝ }
 {
+    let first = place.0 as usize;
     let mut at: usize = 0;
     let mut count: usize = 0;
     loop {
         let left = codes.len() - at;
         let next = packets::encode(alphabet, &codes[at..], left);
         let size = next.size;
-        packets[place + count] = next.packet;
+        buffer[first + count] = next.packet;
         count += 1;
         if left <= size {
             return count;
@@ -128,15 +129,14 @@ fn write_run(alphabet: u32, codes: &[u8], packets: &mut [u32], place: usize) -> 
 }
 
 // Packs a sequence: appends its run at a place of a packet buffer.
-pub fn pack(alphabet: u32, codes: &[u8], packets: &mut [u32], place: PacketPos) -> PackAnswer
-    ensures answer { λ r. ⌜ r ≡ packAnswer alphabet (now (codes .entry)) (length (now (packets .entry))) (place .0) ⌝ }
-    ensures packets { λ _. ⌜ now (packets .exit) ≡ packetsAfter alphabet (now (codes .entry)) (now (packets .entry)) (place .0) ⌝ }
+pub fn pack(alphabet: u32, codes: &[u8], buffer: &mut [u32], place: PacketPos) -> PackAnswer
+    ensures answer { λ r. ⌜ r ≡ packAnswer alphabet (now (codes .entry)) (length (now (buffer .entry))) (place .0) ⌝ }
+    ensures packets { λ _. ⌜ now (buffer .exit) ≡ packetsAfter alphabet (now (codes .entry)) (now (buffer .entry)) (place .0) ⌝ }
 {
-    let at = place.0 as usize;
-    match check_pack(alphabet, codes, packets.len() as u64, place) {
+    match check_pack(alphabet, codes, buffer.len() as u64, place) {
         Checked::Refused(r) => PackAnswer::Refused(r),
         Checked::Passed => {
-            let count = write_run(alphabet, codes, packets, at);
+            let count = write_run(alphabet, codes, buffer, place);
             PackAnswer::Packed {
                 packets: count as u64,
                 residues: codes.len() as u64,
@@ -147,105 +147,105 @@ pub fn pack(alphabet: u32, codes: &[u8], packets: &mut [u32], place: PacketPos) 
 
 // The faults of the first packets, put together: 0 where each may stand in a run before its last. No packet ends the loop early, so that
 // the compiler tests several at once.
-fn inner_faults(alphabet: u32, packets: &[u32], count: usize) -> u32
-    requires { ⌜ count ≤ length (now packets) ⌝ }
-    ensures { λ r. ⌜ eqb r 0 ≡ innerTo alphabet (now (packets .entry)) count ⌝ }
+fn inner_faults(alphabet: u32, source: &[u32], count: usize) -> u32
+    requires { ⌜ count ≤ length (now source) ⌝ }
+    ensures { λ r. ⌜ eqb r 0 ≡ innerTo alphabet (now (source .entry)) count ⌝ }
 {
     let mut faults: u32 = 0;
     let mut i: usize = 0;
     while i < count {
-        faults = faults | packets::inner_fault(alphabet, packets[i]);
+        faults = faults | packets::inner_fault(alphabet, source[i]);
         i += 1;
     }
     faults
 }
 
 // The number of codes of the first packets.
-fn count_codes(packets: &[u32], count: usize) -> usize
-    requires { ⌜ (count ≤ length (now packets)) × (count ≤ 536870912) ⌝ }
-    ensures { λ r. ⌜ r ≡ codesTo (now (packets .entry)) count ⌝ }
+fn count_codes(source: &[u32], count: usize) -> usize
+    requires { ⌜ (count ≤ length (now source)) × (count ≤ 536870912) ⌝ }
+    ensures { λ r. ⌜ r ≡ codesTo (now (source .entry)) count ⌝ }
 {
     let mut total: usize = 0;
     let mut i: usize = 0;
     while i < count {
-        total += packets::code_count(packets[i]);
+        total += packets::code_count(source[i]);
         i += 1;
     }
     total
 }
 
 // Reads packets as a run.
-fn read_run(alphabet: u32, packets: &[u32]) -> RunLength
-    requires { ⌜ length (now packets) ≤ 536870912 ⌝ }
-    ensures { λ r. ⌜ r ≡ runLength alphabet (now (packets .entry)) ⌝ }
+fn read_run(alphabet: u32, source: &[u32]) -> RunLength
+    requires { ⌜ length (now source) ≤ 536870912 ⌝ }
+    ensures { λ r. ⌜ r ≡ runLength alphabet (now (source .entry)) ⌝ }
 {
-    let count = packets.len();
+    let count = source.len();
     if count == 0 {
         return RunLength::NoRun;
     }
     let last = count - 1;
-    if inner_faults(alphabet, packets, last) != 0 {
+    if inner_faults(alphabet, source, last) != 0 {
         return RunLength::NoRun;
     }
-    let packet = packets[last];
+    let packet = source[last];
     if !packets::is_last(alphabet, last == 0, packet) {
         return RunLength::NoRun;
     }
-    let before = count_codes(packets, last);
+    let before = count_codes(source, last);
     RunLength::Residues(before + packets::residue_count(packet))
 }
 
 // What unpacking answers with so many bytes of room; nothing is written.
-fn unpack_answer(alphabet: u32, packets: &[u32], room: usize) -> UnpackAnswer
-    ensures { λ r. ⌜ r ≡ unpackAnswer alphabet (now (packets .entry)) room ⌝ }
+fn unpack_answer(alphabet: u32, source: &[u32], room: usize) -> UnpackAnswer
+    ensures { λ r. ⌜ r ≡ unpackAnswer alphabet (now (source .entry)) room ⌝ }
 {
-    if packets.len() > answers::MOST_PACKETS {
+    if source.len() > answers::MOST_PACKETS {
         return UnpackAnswer::Refused(Refusal::TooLarge);
     }
     if !residues::is_alphabet(alphabet) {
         return UnpackAnswer::Refused(Refusal::WrongKind);
     }
-    let RunLength::Residues(total) = read_run(alphabet, packets) else {
+    let RunLength::Residues(total) = read_run(alphabet, source) else {
         return UnpackAnswer::Refused(Refusal::BadRun);
     };
     if room < total {
         return UnpackAnswer::Refused(Refusal::NoRoom);
     }
     UnpackAnswer::Unpacked {
-        packets: packets.len() as u64,
+        packets: source.len() as u64,
         residues: total as u64,
     }
 }
 
 // Writes the residues of a well-formed run at the start of the output.
-fn write_residues(alphabet: u32, packets: &[u32], out: &mut [u8])
-    requires { ⌜ (wellFormed alphabet (now packets) ≡ true) × (length (unpacked (now packets)) ≤ length (now out)) ⌝ }
-    ensures { λ _. ⌜ now (out .exit) ≡ writtenAt 0 (unpacked (now (packets .entry))) (now (out .entry)) ⌝ }
+fn write_residues(alphabet: u32, source: &[u32], out: &mut [u8])
+    requires { ⌜ (wellFormed alphabet (now source) ≡ true) × (length (unpacked (now source)) ≤ length (now out)) ⌝ }
+    ensures { λ _. ⌜ now (out .exit) ≡ writtenAt 0 (unpacked (now (source .entry))) (now (out .entry)) ⌝ }
 {
-    let last = packets.len() - 1;
+    let last = source.len() - 1;
     let mut at: usize = 0;
     let mut i: usize = 0;
     while i < last {
-        let packet = packets[i];
+        let packet = source[i];
         packets::decode_codes(packet, out, at);
         at += packets::code_count(packet);
         i += 1;
     }
-    packets::decode(packets[last], out, at);
+    packets::decode(source[last], out, at);
 }
 
 // Unpacks a run: writes its residues at the start of the output.
-pub fn unpack(alphabet: u32, packets: &[u32], out: &mut [u8]) -> UnpackAnswer
-    ensures answer { λ r. ⌜ r ≡ unpackAnswer alphabet (now (packets .entry)) (length (now (out .entry))) ⌝ }
-    ensures codes { λ _. ⌜ now (out .exit) ≡ codesAfter alphabet (now (packets .entry)) (now (out .entry)) ⌝ }
+pub fn unpack(alphabet: u32, source: &[u32], out: &mut [u8]) -> UnpackAnswer
+    ensures answer { λ r. ⌜ r ≡ unpackAnswer alphabet (now (source .entry)) (length (now (out .entry))) ⌝ }
+    ensures codes { λ _. ⌜ now (out .exit) ≡ codesAfter alphabet (now (source .entry)) (now (out .entry)) ⌝ }
 {
-    match unpack_answer(alphabet, packets, out.len()) {
+    match unpack_answer(alphabet, source, out.len()) {
         UnpackAnswer::Refused(r) => UnpackAnswer::Refused(r),
         UnpackAnswer::Unpacked {
             packets: count,
             residues: total,
         } => {
-            write_residues(alphabet, packets, out);
+            write_residues(alphabet, source, out);
             UnpackAnswer::Unpacked {
                 packets: count,
                 residues: total,

@@ -12,10 +12,10 @@ use Rattle.runs.proofs.count_codes.Statement.{statement}
 use Rattle.runs.proofs.count_codes.Tie as tie
 
 abbrev Inv-loop : tie.InvT-loop
-Inv-loop packets count total₀ i₀ total i = (i ≤ count) × (total ≡ codesTo packets i)
+Inv-loop source count total₀ i₀ total i = (i ≤ count) × (total ≡ codesTo source i)
 
 abbrev μ-loop : tie.MeasureT-loop
-μ-loop packets count total₀ i₀ total i = count - i
+μ-loop source count total₀ i₀ total i = count - i
 
 loop-holds : tie.Need-loop-holds Inv-loop μ-loop
 loop-holds c = (omega arith, refl)
@@ -31,7 +31,7 @@ code-count-requires c κs = search needs
 
 add-total : tie.Need-add-total Inv-loop μ-loop
 add-total c =
-    let ps = now ((c .before .before .before .before .before .args) .packets) in
+    let ps = now ((c .before .before .before .before .before .args) .source) in
     let l = (c .before .before .before .loop) in
     let m = codes-count (getD ps (l .i) 0) in
     omega (arith, (c .before .before .before .before .before .pre) .1, (c .code-count) .ensures, l .inv .1, codes-fives ps (l .i))
@@ -46,7 +46,7 @@ loop-again : tie.Need-loop-again Inv-loop μ-loop
 loop-again c =
     let l = (c .before .before .before .loop) in
     let n = (c .code-count) in
-    (omega arith, codes-more (now ((c .before .before .before .before .before .args) .packets)) (l .i) _ refl (l .total) (n .result) (l .inv .1) (n .ensures))
+    (omega arith, codes-more (now ((c .before .before .before .before .before .args) .source)) (l .i) _ refl (l .total) (n .result) (l .inv .1) (n .ensures))
 
 returns : tie.Need-returns Inv-loop μ-loop
 returns c =

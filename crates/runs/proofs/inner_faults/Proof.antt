@@ -11,10 +11,10 @@ use Rattle.runs.proofs.inner_faults.Statement.{statement}
 use Rattle.runs.proofs.inner_faults.Tie as tie
 
 abbrev Inv-loop : tie.InvT-loop
-Inv-loop alphabet packets count faults₀ i₀ faults i = (i ≤ count) × (eqb faults 0 ≡ innerTo alphabet packets i)
+Inv-loop alphabet source count faults₀ i₀ faults i = (i ≤ count) × (eqb faults 0 ≡ innerTo alphabet source i)
 
 abbrev μ-loop : tie.MeasureT-loop
-μ-loop alphabet packets count faults₀ i₀ faults i = count - i
+μ-loop alphabet source count faults₀ i₀ faults i = count - i
 
 loop-holds : tie.Need-loop-holds Inv-loop μ-loop
 loop-holds c = (omega arith, refl)
@@ -39,7 +39,7 @@ loop-again c =
     let a = (c .before .before .before .before .before .args) in
     let l = (c .before .before .before .loop) in
     let f = (c .inner-fault) in
-    (omega arith, inner-more (now (a .packets)) (l .i) _ refl (a .alphabet) (l .faults) (f .result) (l .inv .1) (f .ensures))
+    (omega arith, inner-more (now (a .source)) (l .i) _ refl (a .alphabet) (l .faults) (f .result) (l .inv .1) (f .ensures))
 
 returns : tie.Need-returns Inv-loop μ-loop
 returns c =

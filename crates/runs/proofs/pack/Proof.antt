@@ -22,7 +22,7 @@ enum-told c = search needs
 write-run-requires : tie.Need-write-run-requires
 write-run-requires c κs = let a = (c .before .before .before .before .before .before .args) in
     let cs = now (a .codes) in
-    let room = length (now (a .packets)) in
+    let room = length (now (a .buffer)) in
     let check = (c .before .before .before .check-pack) in
     let m = check-passed (a .alphabet) cs room (a .place .0) (check .result) (check .ensures) ((c .before .enum-told) .given .1) in
     (m .valid, m .fits)
@@ -30,10 +30,10 @@ write-run-requires c κs = let a = (c .before .before .before .before .before .b
 returns : tie.Need-returns
 returns c = let a = (c .before .before .before .before .before .before .args) in
     let cs = now (a .codes) in
-    let room = length (now (a .packets)) in
+    let room = length (now (a .buffer)) in
     let check = (c .before .before .before .check-pack) in
     let e = check-refused (a .alphabet) cs room (a .place .0) (check .result) (check .ensures) ((c .before .r) .given .0 .0) ((c .before .r) .given .1) in
-    (sym e, sym (packets-kept (a .alphabet) cs (now (a .packets)) (a .place .0) ((c .before .r) .given .0 .0) e))
+    (sym e, sym (packets-kept (a .alphabet) cs (now (a .buffer)) (a .place .0) ((c .before .r) .given .0 .0) e))
 
 same-length : tie.Need-same-length
 same-length c = search needs
@@ -41,12 +41,12 @@ same-length c = search needs
 returns-2 : tie.Need-returns-2
 returns-2 c = let a = (c .before .before .before .before .before .before .before .before .before .args) in
     let cs = now (a .codes) in
-    let room = length (now (a .packets)) in
+    let room = length (now (a .buffer)) in
     let check = (c .before .before .before .before .before .before .check-pack) in
     let m = check-passed (a .alphabet) cs room (a .place .0) (check .result) (check .ensures) ((c .before .before .before .before .enum-told) .given .1) in
     let e = pack-done (a .alphabet) cs room (a .place .0) m in (
       ap (λ (n : ℕ). Packed n (length cs)) ((c .before .before .write-run) .ensures .0) ∙ sym e,
-      (c .before .before .write-run) .ensures .1 ∙ sym (packets-written (a .alphabet) cs (now (a .packets)) (a .place .0)
+      (c .before .before .write-run) .ensures .1 ∙ sym (packets-written (a .alphabet) cs (now (a .buffer)) (a .place .0)
           (length (run (a .alphabet) cs)) (length cs) e),
     )
 

@@ -14,14 +14,14 @@ use Rattle.runs.proofs.read_run.Statement.{statement}
 use Rattle.runs.proofs.read_run.Tie as tie
 
 abbrev packets : tie.Start → List ℕ
-packets s = now (s .args .packets)
+packets s = now (s .args .source)
 
 -- no packet before the last has a fault
 no-fault : (c : tie.Else2) → let s = c .before .before .before .before in innerTo (s .args .alphabet) (packets s) (length (packets s) - 1) ≡ true
 no-fault c = let f = c .before .inner-faults in sym (f .ensures) ∙ eq-eqb (f .result) 0 (c .if2 .left)
 
 returns : tie.Need-returns
-returns c = let a = (c .before .before .args) in found-none (a .alphabet) (now (a .packets)) (omega arith)
+returns c = let a = (c .before .before .args) in found-none (a .alphabet) (now (a .source)) (omega arith)
 
 sub-last : tie.Need-sub-last
 sub-last c = search needs
@@ -33,7 +33,7 @@ returns-2 : tie.Need-returns-2
 returns-2 c =
     let a = (c .before .before .before .before .args) in
     let f = (c .before .inner-faults) in
-    found-broken (a .alphabet) (now (a .packets)) (length (now (a .packets)) - 1) (omega arith) (sym (f .ensures) ∙ ne-eqb (f .result) 0 ((c .if2) .taken))
+    found-broken (a .alphabet) (now (a .source)) (length (now (a .source)) - 1) (omega arith) (sym (f .ensures) ∙ ne-eqb (f .result) 0 ((c .if2) .taken))
 
 mul-packet : tie.Need-mul-packet
 mul-packet c = search needs

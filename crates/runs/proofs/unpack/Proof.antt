@@ -18,7 +18,7 @@ enum-known-count c = search needs
 
 write-residues-requires : tie.Need-write-residues-requires
 write-residues-requires c κs = let a = (c .before .before .before .before .before .before .before .args) in
-    let ps = now (a .packets) in
+    let ps = now (a .source) in
     let out = now (a .out) in
     let answer = (c .before .before .before .before .unpack-answer) in
     let n = (c .before .before .count) .given .0 .0 in
@@ -29,7 +29,7 @@ write-residues-requires c κs = let a = (c .before .before .before .before .befo
 
 returns : tie.Need-returns
 returns c = let a = (c .before .before .before .before .before .before .args) in
-    let ps = now (a .packets) in
+    let ps = now (a .source) in
     let out = now (a .out) in
     let answer = (c .before .before .before .unpack-answer) in
     let e = sym (answer .ensures) ∙ (c .before .r) .given .1 in
@@ -40,7 +40,7 @@ same-length c = search needs
 
 returns-2 : tie.Need-returns-2
 returns-2 c = let a = (c .before .before .before .before .before .before .before .before .before .before .args) in
-    let ps = now (a .packets) in
+    let ps = now (a .source) in
     let out = now (a .out) in
     let answer = (c .before .before .before .before .before .before .before .unpack-answer) in
     let n = (c .before .before .before .before .before .count) .given .0 .0 in

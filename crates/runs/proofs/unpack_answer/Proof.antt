@@ -17,15 +17,15 @@ use Rattle.runs.proofs.unpack_answer.Statement.{statement}
 use Rattle.runs.proofs.unpack_answer.Tie as tie
 
 -- the rules that were asked and hold, and the run that was read
-large-not : (c : tie.Else1) → let a = c .before .before .args in unpackAnswer (a .alphabet) (now (a .packets)) (a .room) ≡ RunAnswer (a .alphabet)
-    (now (a .packets)) (a .room)
+large-not : (c : tie.Else1) → let a = c .before .before .args in unpackAnswer (a .alphabet) (now (a .source)) (a .room) ≡ RunAnswer (a .alphabet)
+    (now (a .source)) (a .room)
 large-not c = unpack-as _ _ _ (c .if1 .left)
 
 known : (c : tie.Else2) → isAlphabet (c .before .before .before .before .args .alphabet) ≡ true
 known c = sym (c .before .is-alphabet .ensures) ∙ not-false _ (c .if2 .left)
 
 read : (c : tie.After-total) → let a = c .before .before .before .before .before .before .before .args in
-    (wellFormed (a .alphabet) (now (a .packets)) ≡ true) × (c .total .given .0 .0 ≡ length (unpacked (now (a .packets))))
+    (wellFormed (a .alphabet) (now (a .source)) ≡ true) × (c .total .given .0 .0 ≡ length (unpacked (now (a .source))))
 read c = let r = c .before .before .read-run in read-formed _ _ (r .result) (r .ensures) _ (c .total .given .1)
 
 returns : tie.Need-returns
@@ -64,7 +64,7 @@ returns-5 : tie.Need-returns-5
 returns-5 c =
     let f = read (c .before .before) in
     let n = f .1 in
-    ap (λ (l : ℕ). Unpacked (length (now (c .before .before .before .before .before .before .before .before .before .args .packets))) l) n
+    ap (λ (l : ℕ). Unpacked (length (now (c .before .before .before .before .before .before .before .before .before .args .source))) l) n
     ∙ sym (large-not (c .before .before .before .before .before .before .before)
     ∙ run-done _ _ _ (record { known = known (c .before .before .before .before .before); formed = f .0; fits = omega arith }))
 

@@ -16,20 +16,20 @@ use Rattle.runs.proofs.write_residues.Statement.{statement}
 use Rattle.runs.proofs.write_residues.Tie as tie
 
 abbrev Inv-loop : tie.InvT-loop
-Inv-loop alphabet packets out₀ last at₀ i₀ out at i = (i ≤ last)
-    × (last + 1 ≡ length packets)
-    × (at ≡ 0 + length (codesFrom packets 0 i))
-    × Begun 0 (codesFrom packets 0 i) (0 + length (unpacked (drop 0 packets))) out₀ out
+Inv-loop alphabet source out₀ last at₀ i₀ out at i = (i ≤ last)
+    × (last + 1 ≡ length source)
+    × (at ≡ 0 + length (codesFrom source 0 i))
+    × Begun 0 (codesFrom source 0 i) (0 + length (unpacked (drop 0 source))) out₀ out
 
 abbrev μ-loop : tie.MeasureT-loop
-μ-loop alphabet packets out₀ last at₀ i₀ out at i = last - i
+μ-loop alphabet source out₀ last at₀ i₀ out at i = last - i
 
 sub-last : tie.Need-sub-last Inv-loop μ-loop
 sub-last c = omega (arith, well-some ((c .before .before .args) .alphabet) _ ((c .before .before .pre) .0))
 
 loop-holds : tie.Need-loop-holds Inv-loop μ-loop
 loop-holds c =
-    let ps = now ((c .before .before .args) .packets) in (
+    let ps = now ((c .before .before .args) .source) in (
       omega arith,
       omega (arith, well-some ((c .before .before .args) .alphabet) ps ((c .before .before .pre) .0)),
       omega
@@ -53,7 +53,7 @@ add-at : tie.Need-add-at Inv-loop μ-loop
 add-at c =
     let a = (c .before .before .before .before .before .before .before .before .before .before .args) in
     let l = (c .before .before .before .before .before .before .before .loop) in
-    let ps = now (a .packets) in
+    let ps = now (a .source) in
     let p = getD ps (l .i) 0 in
     omega (
       arith,
@@ -75,7 +75,7 @@ loop-again : tie.Need-loop-again Inv-loop μ-loop
 loop-again c =
     let a = (c .before .before .before .before .before .before .before .before .before .before .args) in
     let l = (c .before .before .before .before .before .before .before .loop) in
-    let ps = now (a .packets) in
+    let ps = now (a .source) in
     let p = getD ps (l .i) 0 in
     let room : 0 + length (unpacked (drop 0 ps)) ≤ length (now (a .out)) = rw zero-add
     ((c .before .before .before .before .before .before .before .before .before .before .pre) .1) in
@@ -113,7 +113,7 @@ returns : tie.Need-returns Inv-loop μ-loop
 returns c =
     let a = (c .before .before .before .before .before .before .before .before .before .args) in
     let l = (c .before .before .before .before .before .before .loop) in
-    let ps = now (a .packets) in
+    let ps = now (a .source) in
     let p = getD ps (length ps - 1) 0 in
     let n : l .i ≡ length ps - 1 = omega arith in
     let room : 0 + length (unpacked (drop 0 ps)) ≤ length (now (a .out)) = rw zero-add

@@ -14,18 +14,18 @@ use Rattle.runs.proofs.write_run.Statement.{statement}
 use Rattle.runs.proofs.write_run.Tie as tie
 
 abbrev Inv-loop : tie.InvT-loop
-Inv-loop alphabet codes packets₀ place at₀ count₀ packets at count = (count ≤ at) × (at ≤ length codes - 1) × (length packets ≡ length packets₀) ×
-    (packets ≡ paste packets₀ place (run alphabet codes) count) × (drop count (run alphabet codes) ≡ run alphabet (drop at codes))
+Inv-loop alphabet codes buffer₀ place at₀ count₀ buffer at count = (count ≤ at) × (at ≤ length codes - 1) × (length buffer ≡ length buffer₀) ×
+    (buffer ≡ paste buffer₀ place (run alphabet codes) count) × (drop count (run alphabet codes) ≡ run alphabet (drop at codes))
 
 abbrev μ-loop : tie.MeasureT-loop
-μ-loop alphabet codes packets₀ place at₀ count₀ packets at count = length codes - at
+μ-loop alphabet codes buffer₀ place at₀ count₀ buffer at count = length codes - at
 
 loop-holds : tie.Need-loop-holds Inv-loop μ-loop
 loop-holds c = (
   omega arith,
   omega arith,
   refl,
-  paste-zero (now ((c .before .before .args) .packets)) ((c .before .before .args) .place)
+  paste-zero (now ((c .before .before .args) .buffer)) ((c .before .before .args) .place .0)
       (run ((c .before .before .args) .alphabet) (now ((c .before .before .args) .codes))),
   refl,
 )
@@ -45,8 +45,8 @@ part-encode-end c = search needs
 encode-requires : tie.Need-encode-requires Inv-loop μ-loop
 encode-requires c κs = search needs
 
-add-packets : tie.Need-add-packets Inv-loop μ-loop
-add-packets c = let l = (c .before .before .loop) in
+add-buffer : tie.Need-add-buffer Inv-loop μ-loop
+add-buffer c = let l = (c .before .before .loop) in
     let R = run ((c .before .before .before .before .before .args) .alphabet) (now ((c .before .before .before .before .before .args) .codes)) in
     let n = ap length (l .inv .4) in
     omega (
@@ -57,8 +57,8 @@ add-packets c = let l = (c .before .before .loop) in
           ((c .before .before .before .before .before .args) .alphabet) (drop (l .at) (now ((c .before .before .before .before .before .args) .codes))),
     )
 
-mul-packets : tie.Need-mul-packets Inv-loop μ-loop
-mul-packets c = let l = (c .before .before .loop) in
+mul-buffer : tie.Need-mul-buffer Inv-loop μ-loop
+mul-buffer c = let l = (c .before .before .loop) in
     let R = run ((c .before .before .before .before .before .args) .alphabet) (now ((c .before .before .before .before .before .args) .codes)) in
     let n = ap length (l .inv .4) in
     omega (
@@ -69,8 +69,8 @@ mul-packets c = let l = (c .before .before .loop) in
           ((c .before .before .before .before .before .args) .alphabet) (drop (l .at) (now ((c .before .before .before .before .before .args) .codes))),
     )
 
-slice-write-packets : tie.Need-slice-write-packets Inv-loop μ-loop
-slice-write-packets c = let l = (c .before .before .loop) in
+slice-write-buffer : tie.Need-slice-write-buffer Inv-loop μ-loop
+slice-write-buffer c = let l = (c .before .before .loop) in
     let R = run ((c .before .before .before .before .before .args) .alphabet) (now ((c .before .before .before .before .before .args) .codes)) in
     let n = ap length (l .inv .4) in
     omega (
@@ -94,15 +94,15 @@ returns c = let l = (c .before .before .before .loop) in
     let s = (c .before .encode) .result .size in
     let e = size-is a cs (l .at) s ((c .before .encode) .ensures .1) in
     let R = run a cs in
-    let d = now ((c .before .before .before .before .before .before .args) .packets) in
+    let d = now ((c .before .before .before .before .before .before .args) .buffer) in
     let p = (c .before .encode) .result .packet in
     let q : p ≡ packet a (drop (l .at) cs) = packet-is a cs (l .at) p ((c .before .before .before .before .before .before .pre) .0)
     ((c .before .encode) .ensures .0) in
     let r : drop (l .count) R ≡ p ∷ [] = l .inv .4 ∙ rw q (run-ends a cs (l .at) s e ((c .if1) .taken)) in (
-      store-count R d ((c .before .before .before .before .before .before .args) .place) (l .count) (l .packets) (l .inv .3) p [] r
+      store-count R d ((c .before .before .before .before .before .before .args) .place .0) (l .count) (l .buffer) (l .inv .3) p [] r
           ((c .before .before .before .before .before .before .pre) .1) refl,
       store-ends R d
-          ((c .before .before .before .before .before .before .args) .place) (l .count) (l .packets) (l .inv .3) p [] r
+          ((c .before .before .before .before .before .before .args) .place .0) (l .count) (l .buffer) (l .inv .3) p [] r
           ((c .before .before .before .before .before .before .pre) .1) refl,
     )
 
@@ -124,7 +124,7 @@ loop-again c = let l = (c .before .before .before .loop) in
     let s = (c .before .encode) .result .size in
     let e = size-is a cs (l .at) s ((c .before .encode) .ensures .1) in
     let R = run a cs in
-    let d = now ((c .before .before .before .before .before .before .args) .packets) in
+    let d = now ((c .before .before .before .before .before .before .args) .buffer) in
     let p = (c .before .encode) .result .packet in
     let q : p ≡ packet a (drop (l .at) cs) = packet-is a cs (l .at) p ((c .before .before .before .before .before .before .pre) .0)
     ((c .before .encode) .ensures .0) in
@@ -133,9 +133,9 @@ loop-again c = let l = (c .before .before .before .loop) in
       omega (arith, size-some a (drop (l .at) cs) (omega (arith, length-drop (l .at) cs))),
       omega arith,
       simp length-set (l .inv .2),
-      store-goes R d ((c .before .before .before .before .before .before .args) .place) (l .count) (l .packets) (l .inv .3) p more r
+      store-goes R d ((c .before .before .before .before .before .before .args) .place .0) (l .count) (l .buffer) (l .inv .3) p more r
           ((c .before .before .before .before .before .before .pre) .1),
-      store-rest R d ((c .before .before .before .before .before .before .args) .place) (l .count) (l .packets) (l .inv .3) p more r
+      store-rest R d ((c .before .before .before .before .before .before .args) .place .0) (l .count) (l .buffer) (l .inv .3) p more r
           ((c .before .before .before .before .before .before .pre) .1),
     )
 
@@ -151,9 +151,9 @@ write-run-spec =
     part-encode-start
     part-encode-end
     encode-requires
-    add-packets
-    mul-packets
-    slice-write-packets
+    add-buffer
+    mul-buffer
+    slice-write-buffer
     add-count
     same-length
     returns
