@@ -1,12 +1,12 @@
 -- `runs::write_run`: the packets written so far, and the run of the codes still to read. Assumes nothing.
 use mathlib.Core.Path.{_≡_, refl, ap, _∙_}
-use Prim.Native.Nat.{_≤_, _-_, _+_}
+use Prim.Native.Nat.{ℕ, _≤_, _<_, _-_, _+_}
 use native.Mathlib.Omega.{arith}
 use lib.ListN.{length, drop, length-set, length-drop}
 use lib.Seq.{paste, paste-zero}
-use mathlib.Core.List.{[], _∷_}
+use mathlib.Core.List.{List, [], _∷_}
 use denote.Ref.{now}
-use Rattle.packets.specs.Packing.{run, packet}
+use Rattle.packets.specs.Packing.{size, packet, run}
 use Rattle.packets.proofs.Packing.{size-some, run-some}
 use Rattle.runs.proofs.Turns.{size-is, packet-is, run-ends, run-goes, store-goes, store-rest, store-count, store-ends}
 use borrow.Author.Needs.{needs}
@@ -19,6 +19,39 @@ Inv-loop alphabet codes buffer₀ place at₀ count₀ buffer at count = (count 
 
 abbrev μ-loop : tie.MeasureT-loop
 μ-loop alphabet codes buffer₀ place at₀ count₀ buffer at count = length codes - at
+
+abbrev codes : tie.Start Inv-loop μ-loop → List ℕ
+codes s = now (s .args .codes)
+
+abbrev whole : tie.Start Inv-loop μ-loop → List ℕ
+whole s = run (s .args .alphabet) (codes s)
+
+-- what `encode` says of the next packet, and that a packet is still to be written
+module _ (c : tie.After-encode Inv-loop μ-loop) where
+  abbrev start : tie.Start Inv-loop μ-loop
+  start = c .before .before .before .before .before
+
+  abbrev l : tie.At-loop Inv-loop μ-loop
+  l = c .before .before
+
+  taken : c .encode .result .size ≡ size (start .args .alphabet) (drop (l .loop .at) (codes start))
+  taken = size-is (start .args .alphabet) (codes start) (l .loop .at) _ (c .encode .ensures .1)
+
+  packed : c .encode .result .packet ≡ packet (start .args .alphabet) (drop (l .loop .at) (codes start))
+  packed = packet-is (start .args .alphabet) (codes start) (l .loop .at) _ (start .pre .0) (c .encode .ensures .0)
+
+  some : l .loop .at < length (codes start) → 0 < c .encode .result .size
+  some h = rw taken (size-some _ (drop (l .loop .at) (codes start)) (omega (arith, length-drop (l .loop .at) (codes start))))
+
+  room : start .args .place .0 + l .loop .count < length (now (start .args .buffer))
+  room =
+      omega (
+        arith,
+        start .pre .1,
+        length-drop (l .loop .count) (whole start),
+        ap length (l .loop .inv .4),
+        run-some (start .args .alphabet) (drop (l .loop .at) (codes start)),
+      )
 
 loop-holds : tie.Need-loop-holds Inv-loop μ-loop
 loop-holds c = (
@@ -46,40 +79,13 @@ encode-requires : tie.Need-encode-requires Inv-loop μ-loop
 encode-requires c κs = search needs
 
 add-buffer : tie.Need-add-buffer Inv-loop μ-loop
-add-buffer c = let l = (c .before .before .loop) in
-    let R = run ((c .before .before .before .before .before .args) .alphabet) (now ((c .before .before .before .before .before .args) .codes)) in
-    let n = ap length (l .inv .4) in
-    omega (
-      arith,
-      (c .before .before .before .before .before .pre) .1,
-      length-drop (l .count) R,
-      run-some
-          ((c .before .before .before .before .before .args) .alphabet) (drop (l .at) (now ((c .before .before .before .before .before .args) .codes))),
-    )
+add-buffer c = omega (arith, room c)
 
 mul-buffer : tie.Need-mul-buffer Inv-loop μ-loop
-mul-buffer c = let l = (c .before .before .loop) in
-    let R = run ((c .before .before .before .before .before .args) .alphabet) (now ((c .before .before .before .before .before .args) .codes)) in
-    let n = ap length (l .inv .4) in
-    omega (
-      arith,
-      (c .before .before .before .before .before .pre) .1,
-      length-drop (l .count) R,
-      run-some
-          ((c .before .before .before .before .before .args) .alphabet) (drop (l .at) (now ((c .before .before .before .before .before .args) .codes))),
-    )
+mul-buffer c = omega (arith, room c, (c .before .before .loop) .inv .2)
 
 slice-write-buffer : tie.Need-slice-write-buffer Inv-loop μ-loop
-slice-write-buffer c = let l = (c .before .before .loop) in
-    let R = run ((c .before .before .before .before .before .args) .alphabet) (now ((c .before .before .before .before .before .args) .codes)) in
-    let n = ap length (l .inv .4) in
-    omega (
-      arith,
-      (c .before .before .before .before .before .pre) .1,
-      length-drop (l .count) R,
-      run-some
-          ((c .before .before .before .before .before .args) .alphabet) (drop (l .at) (now ((c .before .before .before .before .before .args) .codes))),
-    )
+slice-write-buffer c = omega (arith, room c, (c .before .before .loop) .inv .2)
 
 add-count : tie.Need-add-count Inv-loop μ-loop
 add-count c = omega arith
@@ -88,55 +94,33 @@ same-length : tie.Need-same-length Inv-loop μ-loop
 same-length c = simp length-set ((c .before .before .before .loop) .inv .2)
 
 returns : tie.Need-returns Inv-loop μ-loop
-returns c = let l = (c .before .before .before .loop) in
-    let a = (c .before .before .before .before .before .before .args) .alphabet in
-    let cs = now ((c .before .before .before .before .before .before .args) .codes) in
-    let s = (c .before .encode) .result .size in
-    let e = size-is a cs (l .at) s ((c .before .encode) .ensures .1) in
-    let R = run a cs in
-    let d = now ((c .before .before .before .before .before .before .args) .buffer) in
-    let p = (c .before .encode) .result .packet in
-    let q : p ≡ packet a (drop (l .at) cs) = packet-is a cs (l .at) p ((c .before .before .before .before .before .before .pre) .0)
-    ((c .before .encode) .ensures .0) in
-    let r : drop (l .count) R ≡ p ∷ [] = l .inv .4 ∙ rw q (run-ends a cs (l .at) s e ((c .if1) .taken)) in (
-      store-count R d ((c .before .before .before .before .before .before .args) .place .0) (l .count) (l .buffer) (l .inv .3) p [] r
-          ((c .before .before .before .before .before .before .pre) .1) refl,
-      store-ends R d
-          ((c .before .before .before .before .before .before .args) .place .0) (l .count) (l .buffer) (l .inv .3) p [] r
-          ((c .before .before .before .before .before .before .pre) .1) refl,
+returns c =
+    let s = c .before .before .before .before .before .before in
+    let l = c .before .before .before .loop in
+    let p = c .before .encode .result .packet in
+    let r : drop (l .count) (whole s) ≡ p ∷ [] = l .inv .4 ∙ rw (packed (c .before)) (run-ends _ _ (l .at) _ (taken (c .before)) (c .if1 .taken)) in (
+      store-count (whole s) (now (s .args .buffer)) (s .args .place .0) (l .count) (l .buffer) (l .inv .3) p [] r (s .pre .1) refl,
+      store-ends (whole s) (now (s .args .buffer)) (s .args .place .0) (l .count) (l .buffer) (l .inv .3) p [] r (s .pre .1) refl,
     )
 
 add-at : tie.Need-add-at Inv-loop μ-loop
 add-at c = omega arith
 
 loop-less : tie.Need-loop-less Inv-loop μ-loop
-loop-less c = let l = (c .before .before .before .loop) in
-    let a = (c .before .before .before .before .before .before .args) .alphabet in
-    let cs = now ((c .before .before .before .before .before .before .args) .codes) in
-    let s = (c .before .encode) .result .size in
-    let e = size-is a cs (l .at) s ((c .before .encode) .ensures .1) in
-    omega (arith, size-some a (drop (l .at) cs) (omega (arith, length-drop (l .at) cs)))
+loop-less c = omega (arith, some (c .before) (omega arith))
 
 loop-again : tie.Need-loop-again Inv-loop μ-loop
-loop-again c = let l = (c .before .before .before .loop) in
-    let a = (c .before .before .before .before .before .before .args) .alphabet in
-    let cs = now ((c .before .before .before .before .before .before .args) .codes) in
-    let s = (c .before .encode) .result .size in
-    let e = size-is a cs (l .at) s ((c .before .encode) .ensures .1) in
-    let R = run a cs in
-    let d = now ((c .before .before .before .before .before .before .args) .buffer) in
-    let p = (c .before .encode) .result .packet in
-    let q : p ≡ packet a (drop (l .at) cs) = packet-is a cs (l .at) p ((c .before .before .before .before .before .before .pre) .0)
-    ((c .before .encode) .ensures .0) in
-    let r : drop (l .count) R ≡ p ∷ run a (drop (l .at + s) cs) = l .inv .4 ∙ rw q (run-goes a cs (l .at) s e ((c .if1) .left)) in
-    let more = run a (drop (l .at + s) cs) in (
-      omega (arith, size-some a (drop (l .at) cs) (omega (arith, length-drop (l .at) cs))),
+loop-again c =
+    let s = c .before .before .before .before .before .before in
+    let l = c .before .before .before .loop in
+    let p = c .before .encode .result .packet in
+    let more = run (s .args .alphabet) (drop (l .at + c .before .encode .result .size) (codes s)) in
+    let r : drop (l .count) (whole s) ≡ p ∷ more = l .inv .4 ∙ rw (packed (c .before)) (run-goes _ _ (l .at) _ (taken (c .before)) (c .if1 .left)) in (
+      omega (arith, some (c .before) (omega arith)),
       omega arith,
       simp length-set (l .inv .2),
-      store-goes R d ((c .before .before .before .before .before .before .args) .place .0) (l .count) (l .buffer) (l .inv .3) p more r
-          ((c .before .before .before .before .before .before .pre) .1),
-      store-rest R d ((c .before .before .before .before .before .before .args) .place .0) (l .count) (l .buffer) (l .inv .3) p more r
-          ((c .before .before .before .before .before .before .pre) .1),
+      store-goes (whole s) (now (s .args .buffer)) (s .args .place .0) (l .count) (l .buffer) (l .inv .3) p more r (s .pre .1),
+      store-rest (whole s) (now (s .args .buffer)) (s .args .place .0) (l .count) (l .buffer) (l .inv .3) p more r (s .pre .1),
     )
 
 pub write-run-spec : {M : Type 1} → statement M
