@@ -27,14 +27,6 @@ packets s = packetsOf (bytes s)
 fits : (c : tie.Else1) → let s = c .before .before in runLength (s .args .alphabet) (packets s) ≡ runIn (s .args .alphabet) (bytes s)
 fits c = sym (read-fits _ (bytes (c .before .before)) (c .if1 .left))
 
--- no packet before the last has a fault
-no-fault : (c : tie.Else3) → let s = c .before .before .before .before .before in innerTo (s .args .alphabet) (packets s) (length (bytes s) / 4 - 1) ≡ true
-no-fault c = let f = c .before .inner-faults in sym (f .ensures) ∙ eq-eqb (f .result) 0 (c .if3 .left)
-
--- one packet stands behind those before the last
-last-is : (c : tie.Else2) → let s = c .before .before .before in length (bytes s) / 4 - 1 + 1 ≡ length (packets s)
-last-is c = omega (arith, length-packets (bytes (c .before .before .before)))
-
 returns : tie.Need-returns
 returns c = let a = (c .before .before .args) in read-large (a .alphabet) (now (a .bytes)) ((c .if1) .taken)
 
@@ -42,6 +34,14 @@ returns-2 : tie.Need-returns-2
 returns-2 c =
     let s = c .before .before .before in
     found-none (s .args .alphabet) (packets s) (omega (arith, length-packets (bytes s))) ∙ fits (c .before)
+
+-- no packet before the last has a fault
+no-fault : (c : tie.Else3) → let s = c .before .before .before .before .before in innerTo (s .args .alphabet) (packets s) (length (bytes s) / 4 - 1) ≡ true
+no-fault c = let f = c .before .inner-faults in sym (f .ensures) ∙ eq-eqb (f .result) 0 (c .if3 .left)
+
+-- one packet stands behind those before the last
+last-is : (c : tie.Else2) → let s = c .before .before .before in length (bytes s) / 4 - 1 + 1 ≡ length (packets s)
+last-is c = omega (arith, length-packets (bytes (c .before .before .before)))
 
 sub-last : tie.Need-sub-last
 sub-last c = search needs
