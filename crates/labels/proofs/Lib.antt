@@ -1,3 +1,4 @@
 pub mod Steps
 pub mod Labels
 pub mod Written
+pub mod ByHand
