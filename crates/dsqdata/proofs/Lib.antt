@@ -1,6 +1,7 @@
 pub mod Chain
 pub mod Fields
 pub mod EachRule
+pub mod Named
 pub mod Signs
 pub mod Bodies
 pub mod FileBodies

@@ -1,21 +1,17 @@
 -- The lookup finds exactly where its rules hold, and in a set that passed it finds every number. Assumes nothing.
-use mathlib.Core.Path.{_≡_, refl, ap}
+use mathlib.Core.Path.{_≡_, refl, sym, ap}
 use mathlib.Core.Bool.{true}
-use mathlib.Core.List.{List, _∷_, _++_}
-use Prim.Native.Nat.{ℕ, suc, _+_, _*_, _-_, _≤_, _<_}
+use mathlib.Core.List.{List}
+use Prim.Native.Nat.{ℕ, suc, _+_, _-_, _≤_, _<_}
 use native.Mathlib.Omega.{arith}
-use native.Mathlib.Nat.{le-antisymm}
-use lib.Dec.{ltb}
+use native.Mathlib.Nat.{le-antisymm, le-of-eq}
 use lib.IntN.{ℤ, pos, negsuc}
-use lib.ListN.{length}
 use lib.Seq.{slice}
 use lib.Signed.{ltZ, leZ, ltZ-yes, leZ-yes}
 use borrow.Author.Tests.{le-leb, leb-true, lt-ltb, ltb-true}
-use Rattle.laws.specs.Rules.{ask, AllHold}
-use Rattle.laws.proofs.Rules.{verdict-passes, hold-append, hold-first, hold-second}
+use Rattle.laws.proofs.Rules.{verdict-passes}
 use Rattle.laws.proofs.Tests.{true-T, T-true}
 use Rattle.laws.proofs.Passing.{passes-with}
-use Rattle.answers.specs.declared.Refusal.the-variants.{NoSuchSequence}
 use Rattle.packets.specs.declared.BytePos.{BytePos}
 use Rattle.packets.specs.declared.PacketPos.{PacketPos}
 use Rattle.packets.specs.Ends.{after}
@@ -25,61 +21,57 @@ use Rattle.dsqdata.specs.declared.SetAnswer.the-variants as A
 use Rattle.dsqdata.specs.declared.LookupAnswer.the-variants.{Found, Refused}
 use Rattle.dsqdata.specs.Header.{countOf, bytesAfterHeader, packetsIn, bodyOf}
 use Rattle.dsqdata.specs.Ends.{metadataTable, packetTable, endBefore, runAt, metadataStart}
-use Rattle.dsqdata.specs.Check.{countRules, setCheck}
-use Rattle.dsqdata.specs.Lookup.{partRules, startAt, lengthAt, lookupRules, foundAt, lookupOf}
+use Rattle.dsqdata.specs.Check.{setCheck}
+use Rattle.dsqdata.specs.Lookup.{startAt, lengthAt, lookupRules, foundAt, lookupOf}
 use Rattle.dsqdata.specs.Rules.{EndsRule, PartRule, LookupRules}
+use Rattle.dsqdata.proofs.Named.{PartTests, lookup-tests, lookup-tests-back}
 use Rattle.dsqdata.proofs.Rising.{end-low, ends-within, run-is}
 use Rattle.dsqdata.proofs.SetRules.{passed-rules}
 
 module _ (i : List ℕ) (t k : ℕ) where
-  part-rule : AllHold (partRules i t k) → PartRule i t k
-  unfolding partRules
-  part-rule h = record { low = leZ-yes (true-T _ (h .0)); rises = ltZ-yes (true-T _ (h .1 .0)); high = leZ-yes (true-T _ (h .1 .1 .0)) }
+  part-rule : PartTests i t k → PartRule i t k
+  part-rule p = record { low = leZ-yes (true-T _ (p .low)); rises = ltZ-yes (true-T _ (p .rises)); high = leZ-yes (true-T _ (p .high)) }
 
-  rule-part : PartRule i t k → AllHold (partRules i t k)
-  unfolding partRules
-  rule-part r = (
-    T-true (leZ (negsuc 0) (endBefore i t k)) (r .low .le),
-    (T-true (ltZ (endBefore i t k) (endBefore i t (suc k))) (r .rises .lt), (T-true (leZ (endBefore i t (suc k)) (pos 2147483646)) (r .high .le), tt)),
-  )
+  rule-part : PartRule i t k → PartTests i t k
+  rule-part r =
+      record {
+        low = T-true (leZ (negsuc 0) (endBefore i t k)) (r .low .le);
+        rises = T-true (ltZ (endBefore i t k) (endBefore i t (suc k))) (r .rises .lt);
+        high = T-true (leZ (endBefore i t (suc k)) (pos 2147483646)) (r .high .le);
+      }
 
 module _ (set : SetRecord) (i : List ℕ) (k : ℕ) where
   -- What is found is the place, and the rules hold ..
   pub found-rules : (a : BytePos) (b : ℕ) (p : PacketPos) (c : ℕ) → lookupOf set i k ≡ Found a b p c → LookupRules set i k × (foundAt i k ≡ Found a b p c)
-  unfolding lookupOf lookupRules countRules
+  unfolding lookupOf
   found-rules a b p c h =
       let v = passes-with Refused (foundAt i k) (Found a b p c) (λ r e. let z : _≡_ {A = ℕ} 0 1 = cc in omega arith) (lookupRules set i k) h in
-      let n = hold-first (countRules (set .count) i) (ask (ltb k (set .count)) NoSuchSequence ∷ (partRules i metadataTable k ++ partRules i packetTable k))
-      (v .0 .1) in
-      let w = hold-second (countRules (set .count) i) (ask (ltb k (set .count)) NoSuchSequence ∷ (partRules i metadataTable k ++ partRules i packetTable k))
-      (v .0 .1) in (
+      let t = lookup-tests set i k (v .0) in (
         record {
-          fits = leb-true _ _ (v .0 .0);
-          few = leb-true _ _ (n .0);
-          indexWhole = le-antisymm (leb-true _ _ (n .1 .1 .0)) (leb-true _ _ (n .1 .0));
-          known = ltb-true _ _ (w .0);
-          metadataPart = part-rule i metadataTable k (hold-first (partRules i metadataTable k) (partRules i packetTable k) (w .1));
-          runPart = part-rule i packetTable k (hold-second (partRules i metadataTable k) (partRules i packetTable k) (w .1));
+          fits = leb-true _ _ (t .fits);
+          few = leb-true _ _ (t .counts .few);
+          indexWhole = le-antisymm (leb-true _ _ (t .counts .nothingAfter)) (leb-true _ _ (t .counts .endsThere));
+          known = ltb-true _ _ (t .known);
+          metadataPart = part-rule i metadataTable k (t .metadataPart);
+          runPart = part-rule i packetTable k (t .runPart);
         },
         v .1,
       )
 
   -- .. and where the rules hold the place is found.
   pub rules-found : LookupRules set i k → lookupOf set i k ≡ foundAt i k
-  unfolding lookupOf lookupRules countRules
+  unfolding lookupOf
   rules-found r =
       let w = r .indexWhole in
-      let low : 52 + 16 * set .count ≤ length i = omega arith in
-      let high : length i ≤ 52 + 16 * set .count = omega arith in
-      verdict-passes Refused (foundAt i k) (lookupRules set i k) (
-        le-leb _ _ (r .fits),
-        hold-append (countRules (set .count) i) (ask (ltb k (set .count)) NoSuchSequence ∷ (partRules i metadataTable k ++ partRules i packetTable k))
-            (le-leb _ _ (r .few), (le-leb _ _ low, (le-leb _ _ high, tt))) (
-              lt-ltb _ _ (r .known),
-              hold-append (partRules i metadataTable k) (partRules i packetTable k) (rule-part i metadataTable k (r .metadataPart))
-                  (rule-part i packetTable k (r .runPart)),
-            ),
-      )
+      verdict-passes Refused (foundAt i k) (lookupRules set i k)
+      (lookup-tests-back set i k
+      (record {
+        fits = le-leb _ _ (r .fits);
+        counts = record { few = le-leb _ _ (r .few); endsThere = le-leb _ _ (le-of-eq (sym w)); nothingAfter = le-leb _ _ (le-of-eq w) };
+        known = lt-ltb _ _ (r .known);
+        metadataPart = rule-part i metadataTable k (r .metadataPart);
+        runPart = rule-part i packetTable k (r .runPart);
+      }))
 
 -- ---- in a set that passed
 

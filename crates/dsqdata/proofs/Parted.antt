@@ -1,6 +1,6 @@
 -- The set check and the lookup part by part, as the code asks them: each law says what the whole answers by what its parts answered.
 -- Assumes nothing.
-use mathlib.Core.Path.{_≡_, refl, sym, ap, _∙_}
+use mathlib.Core.Path.{_≡_, sym, ap, _∙_}
 use mathlib.Core.Bool.{Bool, true, false}
 use mathlib.Core.List.{List, _∷_, _++_}
 use Prim.Native.Nat.{ℕ, _%_, _≤_}
@@ -33,6 +33,7 @@ use Rattle.dsqdata.specs.Check.{endsRules, metadataEndsRules, packetEnds
 use Rattle.dsqdata.specs.Check.{contentRules, setRules, setCheck}
 use Rattle.dsqdata.specs.Scans.{runsTo, recordsTo}
 use Rattle.dsqdata.specs.Lookup.{partRules, partOf, foundAt, lookupRules, lookupOf}
+use Rattle.dsqdata.proofs.Named.{count-tests}
 use Rattle.dsqdata.proofs.Chain.{stopped, passed, stopped-last, passed-last}
 use Rattle.dsqdata.proofs.Wholes.{runs-refused, runs-totals, records-refused, records-longest, part-refused, part-last, part-found}
 use Rattle.dsqdata.proofs.Wholes.{totals-are, rest-is, sequence-small, count-small}
@@ -220,8 +221,7 @@ module _ (set : SetRecord) (i : List ℕ) (k : ℕ) (small : leb (length i) 2147
 
   module _ (pa : a ≡ C.Passed) where
     pub lookup-few : set .count ≤ 134217728
-    unfolding countRules
-    lookup-few = leb-true _ _ (all-hold (countRules (set .count) i) a ea pa .0)
+    lookup-few = leb-true _ _ (count-tests (set .count) i (all-hold (countRules (set .count) i) a ea pa) .few)
 
     pub number-stopped : ltb k (set .count) ≡ false → L.Refused NoSuchSequence ≡ lookupOf set i k
     unfolding lookupOf lookupRules

@@ -28,6 +28,7 @@ use Rattle.dsqdata.specs.Ends.{packetTable, endBefore, risesAt, runAt, r
 use Rattle.dsqdata.specs.Check.{endsRules}
 use Rattle.dsqdata.specs.Rules.{EndsRule}
 use Rattle.dsqdata.proofs.Bodies.{body-length}
+use Rattle.dsqdata.proofs.Named.{ends-tests, ends-tests-back}
 use Rattle.dsqdata.proofs.Signs.{again, after-small}
 
 module _ (index : List ℕ) (table : ℕ) where
@@ -86,11 +87,11 @@ module _ (index : List ℕ) (table n : ℕ) (r : (k : ℕ) → k < n → endBefo
 module _ (index : List ℕ) (table n size : ℕ) where
   -- the rules of a table of ends, and what document 01 says of it
   pub ends-rule : AllHold (endsRules index table n size) → EndsRule index table n size
-  unfolding endsRules
   ends-rule h =
+      let t = ends-tests index table n size h in
       let r : (k : ℕ) → k < n → endBefore index table k <ℤ endBefore index table (suc k) =
-      λ k l. ltZ-yes (true-T (risesAt index table k) (every-at (risesAt index table) n k l (h .0))) in
-      let m : after (endBefore index table n) ≡ size = eqb-true _ _ (h .1 .0) in
+      λ k l. ltZ-yes (true-T (risesAt index table k) (every-at (risesAt index table) n k l (t .rises))) in
+      let m : after (endBefore index table n) ≡ size = eqb-true _ _ (t .meets) in
       record {
         first = end-zero index table 0 refl;
         rises = r;
@@ -99,11 +100,12 @@ module _ (index : List ℕ) (table n size : ℕ) where
       }
 
   pub rule-ends : EndsRule index table n size → AllHold (endsRules index table n size)
-  unfolding endsRules
-  rule-ends r = (
-    every-all (risesAt index table) n (λ k l. T-true (risesAt index table k) (r .rises k l .lt)),
-    (eq-eqb (after (endBefore index table n)) size (ap after (r .last) ∙ after-last size), tt),
-  )
+  rule-ends r =
+      ends-tests-back index table n size
+      (record {
+        rises = every-all (risesAt index table) n (λ k l. T-true (risesAt index table k) (r .rises k l .lt));
+        meets = eq-eqb (after (endBefore index table n)) size (ap after (r .last) ∙ after-last size);
+      })
 
   -- no end lies past the body
   pub ends-within : EndsRule index table n size → (k : ℕ) → k ≤ n → after (endBefore index table k) ≤ size

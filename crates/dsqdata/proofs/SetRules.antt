@@ -3,12 +3,12 @@ use mathlib.Core.Path.{_≡_, refl, sym, ap, _∙_}
 use mathlib.Core.Bool.{true}
 use mathlib.Core.Logic.{⊎-elim, _⊎_, inl, inr}
 use mathlib.Core.List.{List, _++_}
-use Prim.Native.Nat.{ℕ, suc, _+_, _*_, _≤_, _<_}
+use Prim.Native.Nat.{ℕ, suc, _≤_, _<_}
 use native.Mathlib.Omega.{arith}
-use native.Mathlib.Nat.{le-antisymm, eq-or-lt-of-le}
-use lib.Dec.{leb}
-use lib.ListN.{length}
+use native.Mathlib.Nat.{le-antisymm, le-of-eq, eq-or-lt-of-le}
+use lib.Dec.{eqb, leb}
 use borrow.Author.Tests.{le-leb, leb-true, eq-eqb, eqb-true}
+use Rattle.laws.specs.Places.{sumTo, largestTo}
 use Rattle.laws.specs.Rules.{AllHold}
 use Rattle.laws.proofs.Places.{largest-same}
 use Rattle.laws.proofs.Rules.{verdict-passes, hold-append, hold-first, hold-second}
@@ -26,13 +26,14 @@ use Rattle.metadata.proofs.Rules.{texts-rule, rule-texts}
 use Rattle.dsqdata.specs.declared.SetRecord.{SetRecord}
 use Rattle.dsqdata.specs.declared.SetAnswer.the-variants.{Passed, Refused}
 use Rattle.dsqdata.specs.Header.{alphabetOf, countOf, recordOf, bytesAfterHeader, packetsIn}
-use Rattle.dsqdata.specs.Ends.{metadataTable, packetTable, runAt, metadataStart}
+use Rattle.dsqdata.specs.Ends.{metadataTable, packetTable, runAt, residuesAt, metadataStart}
 use Rattle.dsqdata.specs.Records.{textsAt, nameAt, accessionAt, descriptionAt}
-use Rattle.dsqdata.specs.Check.{sizeRules, startRules, tagRules, fileRules, headerRules, countRules, bodyRules, layoutRules, metadataEndsRules}
-use Rattle.dsqdata.specs.Check.{packetEndsRules, rulesOfRun, setRunRules, rulesOfRecord, recordRules, statedRules, totalRules, behindRuns}
-use Rattle.dsqdata.specs.Check.{restRules, contentRules, setRules, otherRules, setCheck, setNumber, setValues, setRecordValues}
+use Rattle.dsqdata.specs.Check.{fileRules, layoutRules, metadataEndsRules, packetEndsRules, rulesOfRun, setRunRules, rulesOfRecord, recordRules}
+use Rattle.dsqdata.specs.Check.{totalRules, behindRuns, restRules, contentRules, setRules, otherRules, setCheck, setNumber, setValues, setRecordValues}
 use Rattle.dsqdata.specs.Rules.{OtherRules, SetRules}
 use Rattle.dsqdata.proofs.EachRule.{rules-at, rules-all}
+use Rattle.dsqdata.proofs.Named.{FileTests, file-tests, file-tests-back, LayoutTests, layout-tests, layout-tests-back}
+use Rattle.dsqdata.proofs.Named.{StatedTests, stated-tests, stated-tests-back, other-parts, other-parts-back}
 use Rattle.dsqdata.proofs.Rising.{ends-rule, rule-ends}
 
 -- ---- one run, one record, one alphabet
@@ -77,136 +78,138 @@ rule-alphabet a h = ⊎-elim (λ e. rw e) (λ g. ⊎-elim (λ e. rw e) (λ e. rw
 -- ---- the other rules
 
 module _ (i m s : List ℕ) where
+  -- the rules behind the runs: the metadata records and the totals
+  abbrev Stated : Type 0
+  Stated =
+      StatedTests (recordOf i) (sumTo (residuesAt i s) (countOf i)) (largestTo (residuesAt i s) (countOf i))
+      (largestTo (nameAt i m) (countOf i)) (largestTo (accessionAt i m) (countOf i)) (largestTo (descriptionAt i m) (countOf i))
+
+  rest-parts : AllHold (restRules i m s) → AllHold (recordRules i m) × Stated
+  unfolding restRules behindRuns totalRules
+  rest-parts h =
+      (hold-first (recordRules i m) (totalRules i m _ _) h, stated-tests (recordOf i) _ _ _ _ _ (hold-second (recordRules i m) (totalRules i m _ _) h))
+
+  rest-parts-back : AllHold (recordRules i m) → Stated → AllHold (restRules i m s)
+  unfolding restRules behindRuns totalRules
+  rest-parts-back h t = hold-append (recordRules i m) (totalRules i m _ _) h (stated-tests-back (recordOf i) _ _ _ _ _ t)
+
   pub others-rule : AllHold (otherRules i m s) → OtherRules i m s
-  unfolding otherRules fileRules sizeRules startRules tagRules layoutRules headerRules countRules bodyRules restRules behindRuns totalRules statedRules
   others-rule h =
-      let f = hold-first (fileRules i m s) (layoutRules i s ++ (metadataEndsRules i m ++ restRules i m s)) h in
-      let g = hold-second (fileRules i m s) (layoutRules i s ++ (metadataEndsRules i m ++ restRules i m s)) h in
-      let l = hold-first (layoutRules i s) (metadataEndsRules i m ++ restRules i m s) g in
-      let c = hold-second (layoutRules i s) (metadataEndsRules i m ++ restRules i m s) g in
-      let r = hold-second (metadataEndsRules i m) (restRules i m s) c in
-      let n = hold-first (recordRules i m) (totalRules i m _ _) r in
-      let t = hold-second (recordRules i m) (totalRules i m _ _) r in
+      let p = other-parts i m s h in
+      let f = file-tests i m s (p .files) in
+      let l = layout-tests i s (p .layout) in
+      let r = rest-parts (p .rest) in
+      let t = r .1 in
       record {
-        indexFits = leb-true _ _ (f .0);
-        metadataFits = leb-true _ _ (f .1 .0);
-        sequenceFits = leb-true _ _ (f .1 .1 .0);
-        indexStarts = leb-true _ _ (f .1 .1 .1 .0);
-        indexMagic = eqb-true _ _ (f .1 .1 .1 .1 .0);
-        metadataStarts = leb-true _ _ (f .1 .1 .1 .1 .1 .0);
-        metadataMagic = eqb-true _ _ (f .1 .1 .1 .1 .1 .1 .0);
-        sequenceStarts = leb-true _ _ (f .1 .1 .1 .1 .1 .1 .1 .0);
-        sequenceMagic = eqb-true _ _ (f .1 .1 .1 .1 .1 .1 .1 .1 .0);
-        metadataTag = eqb-true _ _ (f .1 .1 .1 .1 .1 .1 .1 .1 .1 .0);
-        sequenceTag = eqb-true _ _ (f .1 .1 .1 .1 .1 .1 .1 .1 .1 .1 .0);
-        alphabet = alphabet-rule (alphabetOf i) (l .0);
-        flags = eqb-true _ _ (l .1 .0);
-        few = leb-true _ _ (l .1 .1 .0);
-        indexWhole = le-antisymm (leb-true _ _ (l .1 .1 .1 .1 .0)) (leb-true _ _ (l .1 .1 .1 .0));
-        bodyWhole = eqb-true _ _ (l .1 .1 .1 .1 .1 .0);
-        metadataEnds = ends-rule i metadataTable (countOf i) (bytesAfterHeader m) (hold-first (metadataEndsRules i m) (restRules i m s) c);
+        indexFits = leb-true _ _ (f .sizes .indexFits);
+        metadataFits = leb-true _ _ (f .sizes .metadataFits);
+        sequenceFits = leb-true _ _ (f .sizes .sequenceFits);
+        indexStarts = leb-true _ _ (f .indexStart .long);
+        indexMagic = eqb-true _ _ (f .indexStart .magic);
+        metadataStarts = leb-true _ _ (f .metadataStart .long);
+        metadataMagic = eqb-true _ _ (f .metadataStart .magic);
+        sequenceStarts = leb-true _ _ (f .sequenceStart .long);
+        sequenceMagic = eqb-true _ _ (f .sequenceStart .magic);
+        metadataTag = eqb-true _ _ (f .tags .metadataTag);
+        sequenceTag = eqb-true _ _ (f .tags .sequenceTag);
+        alphabet = alphabet-rule (alphabetOf i) (l .header .alphabet);
+        flags = eqb-true _ _ (l .header .flags);
+        few = leb-true _ _ (l .counts .few);
+        indexWhole = le-antisymm (leb-true _ _ (l .counts .nothingAfter)) (leb-true _ _ (l .counts .endsThere));
+        bodyWhole = eqb-true _ _ (l .body .whole);
+        metadataEnds = ends-rule i metadataTable (countOf i) (bytesAfterHeader m) (p .metadataEnds);
         name = nameAt i m;
         accession = accessionAt i m;
         description = descriptionAt i m;
-        records = λ k b. record-rule i m k (rules-at (rulesOfRecord i m) (countOf i) k b n);
-        residues = eqb-true _ _ (t .0);
-        longestSequence = eqb-true _ _ (t .1 .0);
-        longestName = eqb-true _ _ (t .1 .1 .0);
-        longestAccession = eqb-true _ _ (t .1 .1 .1 .0);
-        longestDescription = eqb-true _ _ (t .1 .1 .1 .1 .0);
+        records = λ k b. record-rule i m k (rules-at (rulesOfRecord i m) (countOf i) k b (r .0));
+        residues = eqb-true _ _ (t .total);
+        longestSequence = eqb-true _ _ (t .longestSequence);
+        longestName = eqb-true _ _ (t .longestName);
+        longestAccession = eqb-true _ _ (t .longestAccession);
+        longestDescription = eqb-true _ _ (t .longestDescription);
       }
 
-  pub rule-others : OtherRules i m s → AllHold (otherRules i m s)
-  unfolding otherRules fileRules sizeRules startRules tagRules layoutRules headerRules countRules bodyRules restRules behindRuns totalRules statedRules
-  rule-others r =
-      let at : (k : ℕ) → k < countOf i → textsAt i m k ≡ Lengths (r .name k) (r .accession k) (r .description k) =
-      λ k b. rule-record i m k (r .name k) (r .accession k) (r .description k) (r .records k b) in
-      let w = r .indexWhole in
-      let low : 52 + 16 * countOf i ≤ length i = omega arith in
-      let high : length i ≤ 52 + 16 * countOf i = omega arith in
-      hold-append (fileRules i m s) (layoutRules i s ++ (metadataEndsRules i m ++ restRules i m s)) (
-        le-leb _ _ (r .indexFits),
-        (
-          le-leb _ _ (r .metadataFits),
-          (
-            le-leb _ _ (r .sequenceFits),
-            (
-              le-leb _ _ (r .indexStarts),
-              (
-                eq-eqb _ _ (r .indexMagic),
-                (
-                  le-leb _ _ (r .metadataStarts),
-                  (
-                    eq-eqb _ _ (r .metadataMagic),
-                    (
-                      le-leb _ _ (r .sequenceStarts),
-                      (
-                        eq-eqb _ _ (r .sequenceMagic),
-                        (eq-eqb _ _ (r .metadataTag), (eq-eqb _ _ (r .sequenceTag), tt)),
-                      ),
-                    ),
-                  ),
-                ),
-              ),
-            ),
-          ),
-        ),
-      )
-      (hold-append (layoutRules i s) (metadataEndsRules i m ++ restRules i m s) (
-        rule-alphabet (alphabetOf i) (r .alphabet),
-        (eq-eqb _ _ (r .flags), (le-leb _ _ (r .few), (le-leb _ _ low, (le-leb _ _ high, (eq-eqb _ _ (r .bodyWhole), tt))))),
-      )
-      (hold-append (metadataEndsRules i m) (restRules i m s)
-      (rule-ends i metadataTable (countOf i) (bytesAfterHeader m) (r .metadataEnds))
-      (hold-append (recordRules i m) (totalRules i m _ _)
-      (rules-all (rulesOfRecord i m) (countOf i) (λ k b. record-asks i m k _ _ _ (at k b))) (
-        eq-eqb _ _ (r .residues),
-        (
-          eq-eqb _ _ (r .longestSequence),
-          (
-            eq-eqb _ _ (largest-same (nameAt i m) (r .name) (countOf i) (λ k b. ap nameLength (at k b)) ∙ r .longestName),
-            (
-              eq-eqb _ _ (largest-same (accessionAt i m) (r .accession) (countOf i) (λ k b. ap accessionLength (at k b)) ∙ r .longestAccession),
-              (eq-eqb _ _ (largest-same (descriptionAt i m) (r .description) (countOf i) (λ k b. ap descriptionLength (at k b)) ∙ r .longestDescription), tt),
-            ),
-          ),
-        ),
-      ))))
+  module _ (r : OtherRules i m s) where
+    files-back : FileTests i m s
+    files-back =
+        record {
+          sizes = record { indexFits = le-leb _ _ (r .indexFits); metadataFits = le-leb _ _ (r .metadataFits); sequenceFits = le-leb _ _ (r .sequenceFits) };
+          indexStart = record { long = le-leb _ _ (r .indexStarts); magic = eq-eqb _ _ (r .indexMagic) };
+          metadataStart = record { long = le-leb _ _ (r .metadataStarts); magic = eq-eqb _ _ (r .metadataMagic) };
+          sequenceStart = record { long = le-leb _ _ (r .sequenceStarts); magic = eq-eqb _ _ (r .sequenceMagic) };
+          tags = record { metadataTag = eq-eqb _ _ (r .metadataTag); sequenceTag = eq-eqb _ _ (r .sequenceTag) };
+        }
+
+    layout-back : LayoutTests i s
+    layout-back =
+        let w = r .indexWhole in
+        record {
+          header = record { alphabet = rule-alphabet (alphabetOf i) (r .alphabet); flags = eq-eqb _ _ (r .flags) };
+          counts = record { few = le-leb _ _ (r .few); endsThere = le-leb _ _ (le-of-eq (sym w)); nothingAfter = le-leb _ _ (le-of-eq w) };
+          body = record { whole = eq-eqb _ _ (r .bodyWhole) };
+        }
+
+    texts-back : (k : ℕ) → k < countOf i → textsAt i m k ≡ Lengths (r .name k) (r .accession k) (r .description k)
+    texts-back k b = rule-record i m k (r .name k) (r .accession k) (r .description k) (r .records k b)
+
+    -- the longest of a text is that of the lengths that the rules name
+    longest-back : (part : Texts → ℕ) (f : ℕ → ℕ) {n : ℕ} → ((k : ℕ) → k < countOf i → part (textsAt i m k) ≡ f k)
+        → largestTo f (countOf i) ≡ n → eqb (largestTo (λ k. part (textsAt i m k)) (countOf i)) n ≡ true
+    longest-back part f h e = eq-eqb _ _ (largest-same (λ k. part (textsAt i m k)) f (countOf i) h ∙ e)
+
+    stated-back : Stated
+    stated-back =
+        record {
+          total = eq-eqb _ _ (r .residues);
+          longestSequence = eq-eqb _ _ (r .longestSequence);
+          longestName = longest-back nameLength (r .name) (λ k b. ap nameLength (texts-back k b)) (r .longestName);
+          longestAccession = longest-back accessionLength (r .accession) (λ k b. ap accessionLength (texts-back k b)) (r .longestAccession);
+          longestDescription = longest-back descriptionLength (r .description) (λ k b. ap descriptionLength (texts-back k b)) (r .longestDescription);
+        }
+
+    pub rule-others : AllHold (otherRules i m s)
+    rule-others =
+        other-parts-back i m s
+        (record {
+          files = file-tests-back i m s files-back;
+          layout = layout-tests-back i s layout-back;
+          metadataEnds = rule-ends i metadataTable (countOf i) (bytesAfterHeader m) (r .metadataEnds);
+          rest = rest-parts-back
+              (rules-all (rulesOfRecord i m) (countOf i) (λ k b. record-asks i m k _ _ _ (texts-back k b))) stated-back;
+        })
 
 -- ---- all rules
 
 -- The list of all rules holds exactly where the other rules, those of the packet ends and those of the runs do.
 module _ (i m s : List ℕ) where
   pub parts-hold : AllHold (setRules i m s) → AllHold (otherRules i m s) × AllHold (packetEndsRules i s) × AllHold (setRunRules i s)
-  unfolding setRules contentRules otherRules
+  unfolding setRules contentRules
   parts-hold h =
-      let f = hold-first (fileRules i m s) (layoutRules i s ++ contentRules i m s) h in
+      let behind = packetEndsRules i s ++ (setRunRules i s ++ restRules i m s) in
       let g = hold-second (fileRules i m s) (layoutRules i s ++ contentRules i m s) h in
-      let l = hold-first (layoutRules i s) (contentRules i m s) g in
       let c = hold-second (layoutRules i s) (contentRules i m s) g in
-      let e = hold-first (metadataEndsRules i m) (packetEndsRules i s ++ (setRunRules i s ++ restRules i m s)) c in
-      let d = hold-second (metadataEndsRules i m) (packetEndsRules i s ++ (setRunRules i s ++ restRules i m s)) c in
-      let p = hold-first (packetEndsRules i s) (setRunRules i s ++ restRules i m s) d in
+      let d = hold-second (metadataEndsRules i m) behind c in
       let b = hold-second (packetEndsRules i s) (setRunRules i s ++ restRules i m s) d in (
-        hold-append (fileRules i m s) (layoutRules i s ++ (metadataEndsRules i m ++ restRules i m s)) f
-            (hold-append (layoutRules i s) (metadataEndsRules i m ++ restRules i m s) l
-            (hold-append (metadataEndsRules i m) (restRules i m s) e (hold-second (setRunRules i s) (restRules i m s) b))),
-        p,
+        other-parts-back i m s
+            (record {
+              files = hold-first (fileRules i m s) (layoutRules i s ++ contentRules i m s) h;
+              layout = hold-first (layoutRules i s) (contentRules i m s) g;
+              metadataEnds = hold-first (metadataEndsRules i m) behind c;
+              rest = hold-second (setRunRules i s) (restRules i m s) b;
+            }),
+        hold-first (packetEndsRules i s) (setRunRules i s ++ restRules i m s) d,
         hold-first (setRunRules i s) (restRules i m s) b,
       )
 
   pub hold-parts : AllHold (otherRules i m s) → AllHold (packetEndsRules i s) → AllHold (setRunRules i s) → AllHold (setRules i m s)
-  unfolding setRules contentRules otherRules
+  unfolding setRules contentRules
   hold-parts h p b =
-      let f = hold-first (fileRules i m s) (layoutRules i s ++ (metadataEndsRules i m ++ restRules i m s)) h in
-      let g = hold-second (fileRules i m s) (layoutRules i s ++ (metadataEndsRules i m ++ restRules i m s)) h in
-      let l = hold-first (layoutRules i s) (metadataEndsRules i m ++ restRules i m s) g in
-      let c = hold-second (layoutRules i s) (metadataEndsRules i m ++ restRules i m s) g in
-      hold-append (fileRules i m s) (layoutRules i s ++ contentRules i m s) f
-      (hold-append (layoutRules i s) (contentRules i m s) l
-      (hold-append (metadataEndsRules i m) (packetEndsRules i s ++ (setRunRules i s ++ restRules i m s)) (hold-first (metadataEndsRules i m) (restRules i m s) c)
+      let o = other-parts i m s h in
+      hold-append (fileRules i m s) (layoutRules i s ++ contentRules i m s) (o .files)
+      (hold-append (layoutRules i s) (contentRules i m s) (o .layout)
+      (hold-append (metadataEndsRules i m) (packetEndsRules i s ++ (setRunRules i s ++ restRules i m s)) (o .metadataEnds)
       (hold-append (packetEndsRules i s) (setRunRules i s ++ restRules i m s) p
-      (hold-append (setRunRules i s) (restRules i m s) b (hold-second (metadataEndsRules i m) (restRules i m s) c)))))
+      (hold-append (setRunRules i s) (restRules i m s) b (o .rest)))))
 
   -- The check passes where all rules hold, and its answer is the set's record.
   pub passed-all : (x : SetRecord) → setCheck i m s ≡ Passed x → AllHold (setRules i m s) × (recordOf i ≡ x)

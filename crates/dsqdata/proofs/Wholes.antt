@@ -11,7 +11,7 @@ use borrow.Author.Tests.{leb-true}
 use native.Mathlib.Omega.{arith}
 use Rattle.laws.specs.Places.{sumTo, largestTo}
 use Rattle.laws.specs.Rules.{Rule, ask, verdict, AllHold}
-use Rattle.laws.proofs.Rules.{verdict-append, refused-any, hold-first, hold-second}
+use Rattle.laws.proofs.Rules.{verdict-append, refused-any}
 use Rattle.laws.proofs.Passing.{passes-with}
 use Rattle.laws.proofs.Verdicts.{refused-then}
 use Rattle.answers.specs.declared.Refusal.{Refusal}
@@ -34,10 +34,10 @@ use Rattle.dsqdata.specs.declared.ends.Part.the-variants as P
 use Rattle.dsqdata.specs.Header.{countOf, recordOf, bodyOf}
 use Rattle.dsqdata.specs.Ends.{packetTable, endBefore, runAt, residuesAt}
 use Rattle.dsqdata.specs.Records.{nameAt, accessionAt, descriptionAt}
-use Rattle.dsqdata.specs.Check.{sizeRules, startRules, tagRules, fileRules, headerRules, countRules, bodyRules, layoutRules}
-use Rattle.dsqdata.specs.Check.{rulesTo, rulesOfRun, runRulesTo, rulesOfRecord, statedRules, totalRules, behindRuns, restRules}
+use Rattle.dsqdata.specs.Check.{fileRules, layoutRules, rulesTo, rulesOfRun, runRulesTo, rulesOfRecord, statedRules, totalRules, behindRuns, restRules}
 use Rattle.dsqdata.specs.Scans.{runsTo, recordsTo}
 use Rattle.dsqdata.specs.Lookup.{partRules, startAt, lengthAt, partOf}
+use Rattle.dsqdata.proofs.Named.{file-tests, layout-tests}
 use Rattle.dsqdata.proofs.Rising.{run-read}
 
 clash : {A : Type 0} → _≡_ {A = ℕ} 0 1 → A
@@ -151,13 +151,7 @@ unfolding restRules
 rest-is i m s x y e f = rw (e, f)
 
 pub sequence-small : (i m s : List ℕ) → AllHold (fileRules i m s) → length s ≤ 2147483647
-unfolding fileRules sizeRules
-sequence-small i m s h =
-    let p = hold-first (sizeRules i m s) (startRules 52 i ++ (startRules 8 m ++ (startRules 8 s ++ tagRules i m s))) h in
-    leb-true _ _ (p .1 .1 .0)
+sequence-small i m s h = leb-true _ _ (file-tests i m s h .sizes .sequenceFits)
 
 pub count-small : (i s : List ℕ) → AllHold (layoutRules i s) → countOf i ≤ 134217728
-unfolding layoutRules countRules
-count-small i s h =
-    let p = hold-first (countRules (countOf i) i) (bodyRules s) (hold-second (headerRules i) (countRules (countOf i) i ++ bodyRules s) h) in
-    leb-true _ _ (p .0)
+count-small i s h = leb-true _ _ (layout-tests i s h .counts .few)
