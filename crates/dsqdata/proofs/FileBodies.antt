@@ -53,9 +53,6 @@ body-packets s h =
 -- .. so a run is what the bytes of its packets stand for ..
 module _ (a : ℕ) (s : List ℕ) (from to start end : ℕ) (low : from < to) (high : to ≤ packetsIn s) (fits : length s ≤ 2147483647)
     (begins : start ≡ byteOf 8 from) (ends : end ≡ byteOf 8 to) where
-  pub run-within : (start ≤ end) × (end ≤ length s)
-  run-within = (omega (arith, begins, ends), omega (arith, ends))
-
   run-packets : packetsOf (take (end - start) (drop start s)) ≡ slice from to (bodyOf s)
   run-packets =
       let e : start ≡ 4 * from + 8 = begins ∙ byte-place from (omega arith) in

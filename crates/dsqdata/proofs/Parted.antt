@@ -8,10 +8,9 @@ use lib.Dec.{leb, ltb}
 use lib.ListN.{length}
 use borrow.Author.Tests.{leb-true, eq-eqb, ne-eqb}
 use Rattle.laws.specs.Rules.{Rule, ask, verdict}
-use Rattle.laws.proofs.Rules.{verdict-passes}
 use Rattle.laws.proofs.Verdicts.{hold-then}
 use Rattle.answers.specs.declared.Refusal.{Refusal}
-use Rattle.answers.specs.declared.Refusal.the-variants.{TooShort, WrongKind, OutOfRange, BadOffsets, NoSuchSequence}
+use Rattle.answers.specs.declared.Refusal.the-variants.{TooShort, WrongKind, OutOfRange, NoSuchSequence}
 use Rattle.answers.specs.declared.Checked.{Checked}
 use Rattle.answers.specs.declared.Checked.the-variants as C
 use Rattle.answers.specs.Limits.{checkedBy}
@@ -24,19 +23,16 @@ use Rattle.dsqdata.specs.declared.set_runs.Runs.{Runs}
 use Rattle.dsqdata.specs.declared.set_runs.Runs.the-variants as U
 use Rattle.dsqdata.specs.declared.records.Records.{Records}
 use Rattle.dsqdata.specs.declared.records.Records.the-variants as M
-use Rattle.dsqdata.specs.declared.ends.Part.{Part}
-use Rattle.dsqdata.specs.declared.ends.Part.the-variants as P
 use Rattle.dsqdata.specs.Header.{alphabetOf, flagsOf, countOf, recordOf, bytesAfterHeader}
 use Rattle.dsqdata.specs.Ends.{metadataTable, packetTable}
 use Rattle.dsqdata.specs.Check.{sizeRules, startRules, tagRules, fileRules, headerRules, countRules, bodyRules, layoutRules}
 use Rattle.dsqdata.specs.Check.{endsRules, metadataEndsRules, packetEndsRules, setRunRules, recordRules, statedRules, totalRules, behindRuns, restRules}
 use Rattle.dsqdata.specs.Check.{contentRules, setRules, setCheck}
 use Rattle.dsqdata.specs.Scans.{runsTo, recordsTo}
-use Rattle.dsqdata.specs.Lookup.{partRules, partOf, foundAt, lookupRules, lookupOf}
+use Rattle.dsqdata.specs.Lookup.{partRules, foundAt, lookupRules, lookupOf}
 use Rattle.dsqdata.proofs.Named.{count-tests}
 use Rattle.dsqdata.proofs.Chain.{stopped, passed, stopped-last, passed-last}
-use Rattle.dsqdata.proofs.Wholes.{runs-refused, runs-totals, records-refused, records-longest, part-refused, part-last, part-found}
-use Rattle.dsqdata.proofs.Wholes.{totals-are, rest-is, sequence-small, count-small}
+use Rattle.dsqdata.proofs.Wholes.{runs-refused, runs-totals, records-refused, records-longest, totals-are, rest-is, sequence-small, count-small}
 
 -- ---- the files
 
@@ -227,26 +223,20 @@ module _ (set : SetRecord) (i : List ℕ) (k : ℕ) (small : leb (length i) 2147
     unfolding lookupOf lookupRules
     number-stopped h = rw small (passed L.Refused (foundAt i k) (countRules (set .count) i) ea behind pa (rw h))
 
-    module _ (known : ltb k (set .count) ≡ true) {c : Part} (ec : c ≡ partOf i metadataTable k) where
+    module _ (known : ltb k (set .count) ≡ true) {b : Checked} (eb : b ≡ checkedBy (partRules i metadataTable k)) where
       behind-number : {d : _} → d ≡ verdict L.Refused (foundAt i k) (partRules i metadataTable k ++ partRules i packetTable k) → d ≡ lookupOf set i k
       unfolding lookupOf lookupRules
       behind-number h = rw small (passed L.Refused (foundAt i k) (countRules (set .count) i) ea behind pa (rw known h))
 
-      pub metadata-part-stopped : {r : Refusal} → c ≡ P.Refused r → L.Refused BadOffsets ≡ lookupOf set i k
-      metadata-part-stopped p = behind-number (sym (part-refused i metadataTable k c ec _ p (partRules i packetTable k) L.Refused (foundAt i k)))
+      pub metadata-part-stopped : {r : Refusal} → b ≡ C.Refused r → L.Refused r ≡ lookupOf set i k
+      metadata-part-stopped p = behind-number (stopped L.Refused (foundAt i k) (partRules i metadataTable k) eb (partRules i packetTable k) p)
 
-      module _ {x y : ℕ} (pc : c ≡ P.At x y) {b : Part} (eb : b ≡ partOf i packetTable k) where
+      module _ (pb : b ≡ C.Passed) {c : Checked} (ec : c ≡ checkedBy (partRules i packetTable k)) where
         behind-metadata-part : {d : _} → d ≡ verdict L.Refused (foundAt i k) (partRules i packetTable k) → d ≡ lookupOf set i k
-        behind-metadata-part h =
-            let f = part-found i metadataTable k c ec x y pc in
-            behind-number (h ∙ sym (hold-then L.Refused (foundAt i k) (partRules i metadataTable k) (partRules i packetTable k) (f .0)))
+        behind-metadata-part h = behind-number (passed L.Refused (foundAt i k) (partRules i metadataTable k) eb (partRules i packetTable k) pb h)
 
-        pub run-part-stopped : {r : Refusal} → b ≡ P.Refused r → L.Refused BadOffsets ≡ lookupOf set i k
-        run-part-stopped p = behind-metadata-part (sym (part-last i packetTable k b eb _ p L.Refused (foundAt i k)))
+        pub run-part-stopped : {r : Refusal} → c ≡ C.Refused r → L.Refused r ≡ lookupOf set i k
+        run-part-stopped p = behind-metadata-part (stopped-last L.Refused (foundAt i k) (partRules i packetTable k) ec p)
 
-        pub lookup-found : {z w : ℕ} → b ≡ P.At z w → L.Found (record { 0 = x }) y (record { 0 = z }) w ≡ lookupOf set i k
-        lookup-found {z} {w} p =
-            let f = part-found i metadataTable k c ec x y pc in
-            let g = part-found i packetTable k b eb z w p in
-            rw (f .1, f .2, g .1, g .2)
-            (behind-metadata-part (sym (verdict-passes L.Refused (foundAt i k) (partRules i packetTable k) (g .0))))
+        pub lookup-found : c ≡ C.Passed → {d : _} → d ≡ foundAt i k → d ≡ lookupOf set i k
+        lookup-found p h = h ∙ behind-metadata-part (passed-last L.Refused (foundAt i k) (partRules i packetTable k) ec p)

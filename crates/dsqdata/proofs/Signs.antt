@@ -17,6 +17,10 @@ use Rattle.packets.specs.Ends.{after}
 pub again : (w : Width) (z e : ℤ) → mag z < 2 ^ hbits w → z ≡ e → toZ w (ofZ w z) ≡ e
 again w z e h p = toZ-ofZ w z (record { sfits = h }) ∙ p
 
+-- the place after an end that was read
+pub after-again : (e z : ℤ) {r : ℕ} → r ≡ after (toZ w64 (ofZ w64 z)) → mag z < 2 ^ hbits w64 → z ≡ e → r ≡ after e
+after-again e z p h q = p ∙ ap after (again w64 z e h q)
+
 -- ---- the place after an end
 
 neg-is : (e : ℤ) → ltZ e (pos 0) ≡ true → 0 ≡ after e

@@ -2,26 +2,18 @@
 use mathlib.Core.Path.{_≡_, sym, ap, _∙_}
 use mathlib.Core.Bool.{true}
 use mathlib.Core.List.{List}
-use Prim.Native.Nat.{ℕ, suc, _+_, _*_, _^_, _≤_, _<_}
+use Prim.Native.Nat.{ℕ, suc, _+_}
 use native.Mathlib.Numerals.{add-one}
-use lib.IntN.{ℤ}
-use lib.Signed.{mag}
-use mir.Syntax.{w64}
-use mir.Val.{toZ, ofZ}
 use Rattle.laws.specs.Rules.{AllHold}
 use Rattle.answers.specs.Limits.{checkedBy}
 use Rattle.answers.specs.declared.Refusal.the-variants.{BadMetadata}
 use Rattle.answers.specs.declared.Checked.the-variants.{Refused}
-use Rattle.packets.specs.Ends.{after}
 use Rattle.metadata.specs.declared.Texts.{Texts}
 use Rattle.metadata.specs.declared.Texts.the-variants.{Lengths, Bad}
-use Rattle.metadata.specs.Fields.{setSigned}
 use Rattle.metadata.specs.Record.{textsIn, isGood, nameLength, accessionLength, descriptionLength}
-use Rattle.dsqdata.specs.Header.{bytesAfterHeader}
-use Rattle.dsqdata.specs.Ends.{metadataTable, endBefore, metadataStart}
+use Rattle.dsqdata.specs.Ends.{metadataStart}
 use Rattle.dsqdata.specs.Records.{textsAt}
-use Rattle.dsqdata.specs.Check.{endsRules, rulesOfRecord}
-use Rattle.dsqdata.proofs.Rising.{end-after, ends-rule, ends-within}
+use Rattle.dsqdata.specs.Check.{rulesOfRecord}
 
 -- a turn over the records: what it reads of number k, by the places of the record
 module _ (index metadata : List ℕ) (k : ℕ) {from to : ℕ} (e : from ≡ metadataStart index k) (f : to ≡ metadataStart index (suc k)) where

@@ -1,21 +1,17 @@
--- From what a pass over the runs, over the metadata records or over two ends answers to the rules of the whole. Assumes nothing.
-use mathlib.Core.Path.{_≡_, refl, sym, ap, _∙_}
-use mathlib.Core.Bool.{Bool, true, false}
-use mathlib.Core.List.{List, [], _∷_, _++_, append-nil}
+-- From what a pass over the runs or over the metadata records answers to the rules of the whole. Assumes nothing.
+use mathlib.Core.Path.{_≡_, sym, _∙_}
+use mathlib.Core.List.{List, _++_}
 use Prim.Native.Nat.{ℕ, suc, _≤_}
-use lib.IntN.{pos, negsuc}
-use lib.Signed.{ltZ, leZ}
 use lib.ListN.{length}
 use lib.Seq.{slice}
 use borrow.Author.Tests.{leb-true}
 use native.Mathlib.Omega.{arith}
 use Rattle.laws.specs.Places.{sumTo, largestTo}
-use Rattle.laws.specs.Rules.{Rule, ask, verdict, AllHold}
-use Rattle.laws.proofs.Rules.{verdict-append, refused-any}
+use Rattle.laws.specs.Rules.{Rule, verdict, AllHold}
 use Rattle.laws.proofs.Passing.{passes-with}
 use Rattle.laws.proofs.Verdicts.{refused-then}
 use Rattle.answers.specs.declared.Refusal.{Refusal}
-use Rattle.answers.specs.declared.Refusal.the-variants.{BadOffsets, BadRun}
+use Rattle.answers.specs.declared.Refusal.the-variants.{BadRun}
 use Rattle.answers.specs.declared.Checked.the-variants as C
 use Rattle.answers.specs.Limits.{checkedBy}
 use Rattle.packets.specs.Runs.{unpacked}
@@ -29,14 +25,11 @@ use Rattle.dsqdata.specs.declared.set_runs.Runs.{Runs}
 use Rattle.dsqdata.specs.declared.set_runs.Runs.the-variants as U
 use Rattle.dsqdata.specs.declared.records.Records.{Records}
 use Rattle.dsqdata.specs.declared.records.Records.the-variants as M
-use Rattle.dsqdata.specs.declared.ends.Part.{Part}
-use Rattle.dsqdata.specs.declared.ends.Part.the-variants as P
 use Rattle.dsqdata.specs.Header.{countOf, recordOf, bodyOf}
 use Rattle.dsqdata.specs.Ends.{packetTable, endBefore, runAt, residuesAt}
 use Rattle.dsqdata.specs.Records.{nameAt, accessionAt, descriptionAt}
 use Rattle.dsqdata.specs.Check.{fileRules, layoutRules, rulesTo, rulesOfRun, runRulesTo, rulesOfRecord, statedRules, totalRules, behindRuns, restRules}
 use Rattle.dsqdata.specs.Scans.{runsTo, recordsTo}
-use Rattle.dsqdata.specs.Lookup.{partRules, startAt, lengthAt, partOf}
 use Rattle.dsqdata.proofs.Named.{file-tests, layout-tests}
 use Rattle.dsqdata.proofs.Rising.{run-read}
 
@@ -101,39 +94,6 @@ module _ (i m : List ℕ) (n : ℕ) (c : Records) (e : c ≡ recordsTo i m n) wh
       (λ r q. clash (cc)) (rulesTo (rulesOfRecord i m) n) (sym e ∙ p) in
       let t = v .1 in
       (v .0, (cc), (cc), (cc))
-
--- ---- the part of one number
-
--- whatever rule of the two ends is broken, it is 7
-only-offsets : (a b c : Bool) → verdict (λ (r : Refusal). r) BadOffsets (ask a BadOffsets ∷ ask b BadOffsets ∷ ask c BadOffsets ∷ []) ≡ BadOffsets
-only-offsets false b c = refl
-only-offsets true false c = refl
-only-offsets true true false = refl
-only-offsets true true true = refl
-
-module _ (i : List ℕ) (t k : ℕ) (c : Part) (e : c ≡ partOf i t k) where
-  part-any : (r : Refusal) → c ≡ P.Refused r → {B : Type 0} (told : Refusal → B) (fine : B) → verdict told fine (partRules i t k) ≡ told r
-  unfolding partOf
-  part-any r p told fine =
-      refused-any P.Refused (P.At (startAt i t k) (lengthAt i t k)) (partRules i t k) r (λ x q. cc) (λ q. clash (cc)) (sym e ∙ p) told fine
-
-  pub part-refused : (r : Refusal) → c ≡ P.Refused r → (more : List (Rule Refusal)) {B : Type 0} (told : Refusal → B) (fine : B)
-      → verdict told fine (partRules i t k ++ more) ≡ told BadOffsets
-  unfolding partRules
-  part-refused r p more told fine =
-      let b : r ≡ BadOffsets = sym (part-any r p (λ (x : Refusal). x) BadOffsets)
-      ∙ only-offsets (leZ (negsuc 0) (endBefore i t k)) (ltZ (endBefore i t k) (endBefore i t (suc k))) (leZ (endBefore i t (suc k)) (pos 2147483646)) in
-      verdict-append told fine (partRules i t k) more ∙ (part-any r p told (verdict told fine more) ∙ ap told b)
-
-  pub part-last : (r : Refusal) → c ≡ P.Refused r → {B : Type 0} (told : Refusal → B) (fine : B) → verdict told fine (partRules i t k) ≡ told BadOffsets
-  part-last r p told fine = ap (verdict told fine) (sym (append-nil (partRules i t k))) ∙ part-refused r p [] told fine
-
-  pub part-found : (x y : ℕ) → c ≡ P.At x y → AllHold (partRules i t k) × (x ≡ startAt i t k) × (y ≡ lengthAt i t k)
-  unfolding partOf
-  part-found x y p =
-      let v = passes-with P.Refused (P.At (startAt i t k) (lengthAt i t k)) (P.At x y) (λ r q. clash (cc)) (partRules i t k) (sym e ∙ p) in
-      let t = v .1 in
-      (v .0, (cc), (cc))
 
 -- ---- the totals
 

@@ -14,8 +14,6 @@ use Rattle.packets.specs.Ends.{after}
 use Rattle.dsqdata.specs.declared.SetRecord.{SetRecord}
 use Rattle.dsqdata.specs.declared.LookupAnswer.{LookupAnswer}
 use Rattle.dsqdata.specs.declared.LookupAnswer.the-variants.{Found, Refused}
-use Rattle.dsqdata.specs.declared.ends.Part.{Part}
-use Rattle.dsqdata.specs.declared.ends.Part.the-variants as P
 use Rattle.dsqdata.specs.Ends.{metadataTable, packetTable, endBefore}
 use Rattle.dsqdata.specs.Check.{countRules}
 
@@ -33,10 +31,6 @@ startAt index table k = after (endBefore index table k)
 
 abbrev pub lengthAt : List ℕ → ℕ → ℕ → ℕ
 lengthAt index table k = after (endBefore index table (suc k)) - after (endBefore index table k)
-
--- Start and length of number k by a table, or the refusal.
-unfoldable pub partOf : List ℕ → ℕ → ℕ → Part
-partOf index table k = verdict P.Refused (P.At (startAt index table k) (lengthAt index table k)) (partRules index table k)
 
 -- 22; record count 4; index length against that count 1, 6; 10; 7 for the metadata end and the packet end.
 unfoldable pub lookupRules : SetRecord → List ℕ → ℕ → List (Rule Refusal)

@@ -1,14 +1,17 @@
 // The ends of a set's metadata records and runs, which the index has in two tables: per sequence, the metadata's and then the packets'.
+// Ends count after the header of their file, those of metadata in bytes and those of packets in packets; so do the places made from them.
 use crate::header::signed8;
 use answers::Checked;
 use answers::Refusal;
+use packets::BytePos;
+use packets::PacketPos;
 ghost use mathlib.Core.Path.{_≡_};
 ghost use Prim.Native.Nat.{suc, _≤_, _<_};
 ghost use Rattle.answers.specs.Limits.{checkedBy};
 ghost use Rattle.packets.specs.Ends.{after};
-ghost use Rattle.dsqdata.specs.Ends.{endBefore};
+ghost use Rattle.dsqdata.specs.Ends.{metadataTable, packetTable, endBefore};
 ghost use Rattle.dsqdata.specs.Check.{endsRules};
-ghost use Rattle.dsqdata.specs.Lookup.{partOf};
+ghost use Rattle.dsqdata.specs.Lookup.{partRules, startAt};
 
 // Where the tables of the metadata's and of the packets' ends begin in the index, and the bytes from one end of a table to the next.
 pub(crate) const METADATA_TABLE: usize = 52;
@@ -17,15 +20,29 @@ pub(crate) const PACKET_TABLE: usize = 60;
 
 pub(crate) const ENDS: usize = 16;
 
-// Start and length of a metadata record in bytes, or of a run in packets.
-pub(crate) enum Part {
-    At { start: u64, length: u64 },
-    Refused(Refusal),
+// The end of number k of a table.
+fn end_of(index: &[u8], table: usize, k: usize) -> i64
+    requires { ⌜ (table ≤ 60) × (k < 134217728) ⌝ }
+    ensures { λ r. ⌜ r ≡ endBefore (now (index .entry)) table (suc k) ⌝ }
+{
+    signed8(index, table + ENDS * k)
 }
 
-// The first place after an end.
-pub(crate) fn after_end(end: i64) -> u64
-    ensures { λ r. ⌜ r ≡ after end ⌝ }
+// The end before number k of a table; before the first stands -1.
+fn end_before(index: &[u8], table: usize, k: usize) -> i64
+    requires { ⌜ (table ≤ 60) × (k < 134217728) ⌝ }
+    ensures { λ r. ⌜ r ≡ endBefore (now (index .entry)) table k ⌝ }
+{
+    if k == 0 {
+        return -1;
+    }
+    end_of(index, table, k - 1)
+}
+
+// How many bytes or packets there are up to an end and with it.
+fn count_to(end: i64) -> u64
+    ensures value { λ r. ⌜ r ≡ after end ⌝ }
+    ensures most { λ r. ⌜ r ≤ 9223372036854775808 ⌝ }
 {
     if end < 0 {
         return 0;
@@ -33,27 +50,38 @@ pub(crate) fn after_end(end: i64) -> u64
     (end as u64) + 1
 }
 
-// The place after the end of number k of a table.
-pub(crate) fn place_after(index: &[u8], table: usize, k: usize) -> u64
-    requires { ⌜ (table ≤ 60) × (k < 134217728) ⌝ }
-    ensures value { λ r. ⌜ r ≡ after (endBefore (now (index .entry)) table (suc k)) ⌝ }
-    ensures most { λ r. ⌜ r ≤ 9223372036854775808 ⌝ }
+// The byte where the metadata of number k begins, and the byte behind it.
+pub(crate) fn metadata_start(index: &[u8], k: usize) -> BytePos
+    requires { ⌜ k < 134217728 ⌝ }
+    ensures { λ r. ⌜ r .0 ≡ startAt (now (index .entry)) metadataTable k ⌝ }
 {
-    after_end(signed8(index, table + ENDS * k))
+    BytePos(count_to(end_before(index, METADATA_TABLE, k)))
 }
 
-// The end before number k of a table; before the first stands -1.
-fn end_before(index: &[u8], table: usize, k: usize) -> i64
-    requires { ⌜ (table ≤ 60) × (k ≤ 134217728) ⌝ }
-    ensures { λ r. ⌜ r ≡ endBefore (now (index .entry)) table k ⌝ }
+pub(crate) fn metadata_end(index: &[u8], k: usize) -> BytePos
+    requires { ⌜ k < 134217728 ⌝ }
+    ensures value { λ r. ⌜ r .0 ≡ startAt (now (index .entry)) metadataTable (suc k) ⌝ }
+    ensures most { λ r. ⌜ r .0 ≤ 9223372036854775808 ⌝ }
 {
-    if k == 0 {
-        return -1;
-    }
-    signed8(index, table + ENDS * (k - 1))
+    BytePos(count_to(end_of(index, METADATA_TABLE, k)))
 }
 
-// The rules of a table of n ends over a body of `size` places.
+// The packet where the run of number k begins, and the packet behind it.
+pub(crate) fn run_start(index: &[u8], k: usize) -> PacketPos
+    requires { ⌜ k < 134217728 ⌝ }
+    ensures { λ r. ⌜ r .0 ≡ startAt (now (index .entry)) packetTable k ⌝ }
+{
+    PacketPos(count_to(end_before(index, PACKET_TABLE, k)))
+}
+
+pub(crate) fn run_end(index: &[u8], k: usize) -> PacketPos
+    requires { ⌜ k < 134217728 ⌝ }
+    ensures { λ r. ⌜ r .0 ≡ startAt (now (index .entry)) packetTable (suc k) ⌝ }
+{
+    PacketPos(count_to(end_of(index, PACKET_TABLE, k)))
+}
+
+// The rules of a table of n ends over a body of `size` bytes or packets.
 pub(crate) fn check_ends(index: &[u8], table: usize, n: usize, size: usize) -> Checked
     requires { ⌜ (table ≤ 60) × (n ≤ 134217728) ⌝ }
     ensures { λ r. ⌜ r ≡ checkedBy (endsRules (now (index .entry)) table n size) ⌝ }
@@ -61,6 +89,7 @@ pub(crate) fn check_ends(index: &[u8], table: usize, n: usize, size: usize) -> C
     let mut before: i64 = -1;
     let mut k: usize = 0;
     while k < n {
+        // Read in place and not by `end_of`, so that no turn has a call.
         let end = signed8(index, table + ENDS * k);
         if !(before < end) {
             return Checked::Refused(Refusal::BadOffsets);
@@ -68,31 +97,27 @@ pub(crate) fn check_ends(index: &[u8], table: usize, n: usize, size: usize) -> C
         before = end;
         k += 1;
     }
-    if after_end(before) != size as u64 {
+    if count_to(before) != size as u64 {
         return Checked::Refused(Refusal::BadOffsets);
     }
     Checked::Passed
 }
 
-// Start and length of number k by a table.
-pub(crate) fn part_at(index: &[u8], table: usize, k: usize) -> Part
+// The rules that a lookup asks of the end of number k of a table and of the one before it.
+pub(crate) fn check_part(index: &[u8], table: usize, k: usize) -> Checked
     requires { ⌜ (table ≤ 60) × (k < 134217728) ⌝ }
-    ensures { λ r. ⌜ r ≡ partOf (now (index .entry)) table k ⌝ }
+    ensures { λ r. ⌜ r ≡ checkedBy (partRules (now (index .entry)) table k) ⌝ }
 {
     let before = end_before(index, table, k);
-    let end = end_before(index, table, k + 1);
+    let end = end_of(index, table, k);
     if before < -1 {
-        return Part::Refused(Refusal::BadOffsets);
+        return Checked::Refused(Refusal::BadOffsets);
     }
     if !(before < end) {
-        return Part::Refused(Refusal::BadOffsets);
+        return Checked::Refused(Refusal::BadOffsets);
     }
     if end > 2147483646 {
-        return Part::Refused(Refusal::BadOffsets);
+        return Checked::Refused(Refusal::BadOffsets);
     }
-    let start = after_end(before);
-    Part::At {
-        start,
-        length: after_end(end) - start,
-    }
+    Checked::Passed
 }

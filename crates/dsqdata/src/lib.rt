@@ -5,17 +5,18 @@ use answers::MOST_BYTES;
 use answers::Refusal;
 use ends::METADATA_TABLE;
 use ends::PACKET_TABLE;
-use ends::Part;
 use packets::BytePos;
 use packets::PacketPos;
 use set_runs::Runs;
 ghost use mathlib.Core.Path.{_≡_};
-ghost use Prim.Native.Nat.{_≤_};
+ghost use Prim.Native.Nat.{_≤_, _<_};
 ghost use lib.ListN.{length};
+ghost use Rattle.laws.specs.Rules.{AllHold};
 ghost use Rattle.answers.specs.Limits.{checkedBy};
 ghost use Rattle.dsqdata.specs.Header.{recordOf, countOf};
+ghost use Rattle.dsqdata.specs.Ends.{metadataTable, packetTable};
 ghost use Rattle.dsqdata.specs.Check.{metadataEndsRules, packetEndsRules, contentRules, setCheck};
-ghost use Rattle.dsqdata.specs.Lookup.{lookupOf};
+ghost use Rattle.dsqdata.specs.Lookup.{partRules, foundAt, lookupOf};
 
 mod ends;
 mod header;
@@ -112,6 +113,24 @@ pub fn check_set(index: &[u8], metadata: &[u8], sequence: &[u8]) -> SetAnswer
     SetAnswer::Passed(set)
 }
 
+// The answer of a lookup whose rules hold: start and length of metadata and run.
+fn found_at(index: &[u8], k: usize) -> LookupAnswer
+    requires { ⌜ k < 134217728 ⌝ }
+    requires { ⌜ AllHold (partRules (now index) metadataTable k) × AllHold (partRules (now index) packetTable k) ⌝ }
+    ensures { λ r. ⌜ r ≡ foundAt (now (index .entry)) k ⌝ }
+{
+    let start = ends::metadata_start(index, k);
+    let bytes = ends::metadata_end(index, k).0 - start.0;
+    let run = ends::run_start(index, k);
+    let packets = ends::run_end(index, k).0 - run.0;
+    LookupAnswer::Found {
+        start,
+        bytes,
+        run,
+        packets,
+    }
+}
+
 // Finds the metadata and the run of one sequence, by the record that the check returned and the index.
 pub fn lookup(set: SetRecord, index: &[u8], number: u64) -> LookupAnswer
     ensures { λ r. ⌜ r ≡ lookupOf set (now (index .entry)) number ⌝ }
@@ -127,24 +146,13 @@ pub fn lookup(set: SetRecord, index: &[u8], number: u64) -> LookupAnswer
         return LookupAnswer::Refused(Refusal::NoSuchSequence);
     }
     let k = number as usize;
-    let Part::At {
-        start,
-        length: bytes,
-    } = ends::part_at(index, METADATA_TABLE, k)
-    else {
-        return LookupAnswer::Refused(Refusal::BadOffsets);
-    };
-    let Part::At {
-        start: first,
-        length: packets,
-    } = ends::part_at(index, PACKET_TABLE, k)
-    else {
-        return LookupAnswer::Refused(Refusal::BadOffsets);
-    };
-    LookupAnswer::Found {
-        start: BytePos(start),
-        bytes,
-        run: PacketPos(first),
-        packets,
+    let metadata = ends::check_part(index, METADATA_TABLE, k);
+    if let Checked::Refused(r) = metadata {
+        return LookupAnswer::Refused(r);
     }
+    let packets = ends::check_part(index, PACKET_TABLE, k);
+    if let Checked::Refused(r) = packets {
+        return LookupAnswer::Refused(r);
+    }
+    found_at(index, k)
 }

@@ -1,7 +1,6 @@
 // The rules of a set behind its runs: the metadata records and the stated totals.
 use crate::SetRecord;
-use crate::ends::METADATA_TABLE;
-use crate::ends::place_after;
+use crate::ends::metadata_end;
 use crate::header::FILE_HEADER;
 use crate::set_runs::larger;
 use answers::Checked;
@@ -26,12 +25,12 @@ pub(crate) enum Records {
     Refused(Refusal),
 }
 
-// The byte behind the metadata record of number k.
+// The byte of the metadata file behind the record of number k.
 fn record_end(index: &[u8], k: usize) -> BytePos
     requires { ⌜ k < 134217728 ⌝ }
     ensures { λ r. ⌜ r .0 ≡ metadataStart (now (index .entry)) (suc k) ⌝ }
 {
-    BytePos(FILE_HEADER as u64 + place_after(index, METADATA_TABLE, k))
+    BytePos(FILE_HEADER as u64 + metadata_end(index, k).0)
 }
 
 // Reads all metadata records between the metadata ends.

@@ -1,19 +1,17 @@
 // The runs of a set, read one after another: whether each is well formed, and how many residues it has.
-use crate::ends::PACKET_TABLE;
-use crate::ends::place_after;
+use crate::ends::run_end;
 use crate::header::FILE_HEADER;
 use answers::Refusal;
 use packets::PacketPos;
 use packets::RunLength;
 ghost use mathlib.Core.Path.{_≡_};
-ghost use Prim.Native.Nat.{suc, max, _≤_, _<_};
+ghost use Prim.Native.Nat.{max, _≤_, _<_};
 ghost use lib.ListN.{length};
 ghost use lib.Seq.{slice};
 ghost use Rattle.laws.specs.Rules.{AllHold};
-ghost use Rattle.packets.specs.Ends.{after};
 ghost use Rattle.packets.specs.Reading.{runLength};
 ghost use Rattle.dsqdata.specs.Header.{packetsIn, bodyOf};
-ghost use Rattle.dsqdata.specs.Ends.{packetTable, endBefore};
+ghost use Rattle.dsqdata.specs.Ends.{packetTable};
 ghost use Rattle.dsqdata.specs.Check.{endsRules};
 ghost use Rattle.dsqdata.specs.Scans.{runsTo};
 
@@ -41,14 +39,6 @@ fn read_run(sequence: &[u8], alphabet: u32, from: PacketPos, to: PacketPos) -> R
     let start = packets::byte_of(from, FILE_HEADER as u64);
     let end = packets::byte_of(to, FILE_HEADER as u64);
     byte_runs::read_run(alphabet, &sequence[start.0 as usize..end.0 as usize])
-}
-
-// The packet behind the run of number k.
-fn run_end(index: &[u8], k: usize) -> PacketPos
-    requires { ⌜ k < 134217728 ⌝ }
-    ensures { λ r. ⌜ r .0 ≡ after (endBefore (now (index .entry)) packetTable (suc k)) ⌝ }
-{
-    PacketPos(place_after(index, PACKET_TABLE, k))
 }
 
 // Reads all runs between the packet ends.

@@ -62,8 +62,8 @@ loop-again c =
       every-more (risesAt i (a .table)) (l .k) (l .inv .2) f,
     )
 
-after-end-requires : tie.Need-after-end-requires Inv-loop μ-loop
-after-end-requires c κs = search needs
+count-to-requires : tie.Need-count-to-requires Inv-loop μ-loop
+count-to-requires c κs = search needs
 
 -- behind the loop: every end rises, and the place after the last one
 all-rise : (c : tie.After-loop Inv-loop μ-loop) → let a = c .before .before .before .args in every (risesAt (now (a .index)) (a .table)) (a .n) ≡ true
@@ -72,12 +72,12 @@ all-rise c =
     let l = c .before .loop in
     every-done (risesAt (now (a .index)) (a .table)) (l .k) (a .n) (l .inv .0) (c .loop-test .left) (l .inv .2)
 
-last-place : (c : tie.After-after-end Inv-loop μ-loop)
-    → let a = c .before .before .before .before .args in c .after-end .result ≡ after (endBefore (now (a .index)) (a .table) (a .n))
+last-place : (c : tie.After-count-to Inv-loop μ-loop)
+    → let a = c .before .before .before .before .args in c .count-to .result ≡ after (endBefore (now (a .index)) (a .table) (a .n))
 last-place c =
     let a = c .before .before .before .before .args in
     let l = c .before .before .loop in
-    last-after (now (a .index)) (a .table) (l .k) (a .n) (l .inv .0) (c .before .loop-test .left) (c .after-end .ensures) (l .inv .1)
+    last-after (now (a .index)) (a .table) (l .k) (a .n) (l .inv .0) (c .before .loop-test .left) (c .count-to .ensures .0) (l .inv .1)
 
 returns-2 : tie.Need-returns-2 Inv-loop μ-loop
 unfolding endsRules
@@ -106,6 +106,6 @@ check-ends-spec =
     add-k
     loop-less
     loop-again
-    after-end-requires
+    count-to-requires
     returns-2
     returns-3)

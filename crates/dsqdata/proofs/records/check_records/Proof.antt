@@ -8,7 +8,7 @@ use Rattle.laws.specs.Places.{largestTo}
 use Rattle.laws.specs.Rules.{AllHold}
 use Rattle.laws.proofs.Places.{largest-more}
 use Rattle.packets.specs.Ends.{after}
-use Rattle.metadata.specs.declared.Texts.the-variants.{Lengths, Bad}
+use Rattle.metadata.specs.declared.Texts.the-variants.{Lengths}
 use Rattle.dsqdata.specs.Ends.{metadataTable, metadataStart}
 use Rattle.dsqdata.specs.Records.{textsAt, nameAt, accessionAt, descriptionAt}
 use Rattle.dsqdata.specs.Check.{rulesTo, rulesOfRecord}

@@ -1,7 +1,6 @@
 -- `dsqdata::set_runs::read_run`: the bytes of the run's packets, read. Assumes nothing.
-use native.Mathlib.Omega.{arith}
 use denote.Ref.{now}
-use Rattle.dsqdata.proofs.FileBodies.{run-within, run-found}
+use Rattle.dsqdata.proofs.FileBodies.{run-found}
 use borrow.Author.Needs.{needs}
 use Rattle.dsqdata.proofs.set_runs.read_run.Statement.{statement}
 use Rattle.dsqdata.proofs.set_runs.read_run.Tie as tie
