@@ -20,7 +20,7 @@ use Rattle.laws.proofs.Places.{every-at}
 use Rattle.laws.proofs.Tests.{bool-cases, both-pass}
 use Rattle.laws.proofs.Writing.{written-twice}
 use Rattle.fields.specs.Written.{littleBytes}
-use Rattle.fields.proofs.Laws.{length-little}
+use Rattle.fields.proofs.Laws.{length-little, word-bytes}
 use Rattle.residues.specs.Alphabets.{isAmino}
 use Rattle.packets.specs.Runs.{isFiveBit, codesIn, wellFormed, unpacked}
 use Rattle.packets.specs.Bytes.{packetsOf}
@@ -32,18 +32,6 @@ use Rattle.packets.proofs.Behind.{codes-next, codes-append, codes-same, codes-e
 use Rattle.byte_runs.specs.Blocks.{AllOf, Fronts, bytesOfFour, bytesOfTwo, InFour, InTwo, margin, spare}
 
 -- ---- numbers as their bytes
-
-four-little : (a b c d : ℕ) → a < 256 → b < 256 → c < 256 → d < 256 → littleBytes 4 (a + b * 256 + c * 65536 + d * 16777216) ≡ a ∷ b ∷ c ∷ d ∷ []
-four-little a b c d ha hb hc hd =
-    let n = a + b * 256 + c * 65536 + d * 16777216 in
-    let e₀ : n % 256 ≡ a = omega arith in
-    let q₁ : n / 256 ≡ b + c * 256 + d * 65536 = omega arith in
-    let e₁ : (b + c * 256 + d * 65536) % 256 ≡ b = omega arith in
-    let q₂ : (b + c * 256 + d * 65536) / 256 ≡ c + d * 256 = omega arith in
-    let e₂ : (c + d * 256) % 256 ≡ c = omega arith in
-    let q₃ : (c + d * 256) / 256 ≡ d = omega arith in
-    let e₃ : d % 256 ≡ d = omega arith in
-    rw (e₀, q₁, e₁, q₂, e₂, q₃, e₃)
 
 two-little : (a b : ℕ) → a < 256 → b < 256 → littleBytes 2 (a + b * 256) ≡ a ∷ b ∷ []
 two-little a b ha hb =
@@ -61,7 +49,7 @@ first-four p =
     let e₁ : p / 1024 / 1024 ≡ p / 1048576 = omega arith in
     let e₂ : p / 1024 / 32 ≡ p / 32768 = omega arith in
     let e₃ : p / 1024 / 1 ≡ p / 1024 = omega arith in
-    four-little (p / 33554432 % 32) (p / 1048576 % 32) (p / 32768 % 32) (p / 1024 % 32) (omega arith) (omega arith) (omega arith) (omega arith)
+    word-bytes (p / 33554432 % 32) (p / 1048576 % 32) (p / 32768 % 32) (p / 1024 % 32) (omega arith) (omega arith) (omega arith) (omega arith)
     ∙ rw (e₀, e₁, e₂, e₃)
 
 pub last-two : (p : ℕ) → littleBytes 2 (p / 32 % 32 + p % 32 * 256) ≡ digits 5 2 p

@@ -13,12 +13,13 @@ use Rattle.laws.proofs.Parts.{part-rest}
 use Rattle.laws.proofs.Writing.{length-written, written-twice}
 use Rattle.laws.proofs.Places.{every-at}
 use Rattle.residues.specs.Alphabets.{isAmino, validCodes}
-use Rattle.packets.specs.Packing.{plain, isTwoBit, sizeOf, packetOf, twoBitPart, fiveBitPart, size, packet, later, run}
+use Rattle.packets.specs.declared.TwoBit.the-variants.{Packet, NotPlain}
+use Rattle.packets.specs.Packing.{plain, isTwoBit, sizeOf, packetOf, twoBitPart, nextTwoBit, fiveBitPart, size, packet, later, run}
 use Rattle.packets.specs.Positions.{byteOf}
 use Rattle.packets.specs.Bytes.{bytesOf}
 use Rattle.packets.proofs.Bytes.{length-bytes, bytes-append}
 use Rattle.packets.proofs.Lengths.{unpacked-most}
-use Rattle.packets.proofs.Packing.{plain-two, run-some}
+use Rattle.packets.proofs.Packing.{plain-two, found-two, missed-two, run-some}
 use Rattle.packets.proofs.Round.{unpacked-run}
 use Rattle.byte_runs.specs.Packed.{twos, plainParts, RunBegun}
 use Rattle.byte_runs.proofs.Packed.{length-parts, part-long, part-put, put-none, put-inside, put-more, put-rest, put-length, put-behind}
@@ -110,16 +111,19 @@ module _ (cs d : List ℕ) (count at : ℕ) (out : List ℕ) (b : RunBegun cs d 
   pub begun-length : count + length (run 1 (drop at cs)) ≡ length (run 1 cs)
   begun-length = omega (arith, left, b .1)
 
-  -- a 2-bit packet, and a 5-bit packet
-  pub begun-two : (p : ℕ) (new : List ℕ) → p ≡ twoBitPart (drop at cs) → plain 15 (drop at cs) ≡ true → 15 < length cs - at
+  -- a 2-bit packet, and a 5-bit packet, by what is found next
+  pub begun-two : (p : ℕ) (new : List ℕ) → nextTwoBit (midOf at (length cs - at) cs) ≡ Packet p → 15 < length cs - at
       → new ≡ writtenAt (4 * count) (bytesOf (p ∷ [])) out → RunBegun cs d (count + 1) (at + 15) new
-  begun-two p new e f h =
-      begun-more (p ∷ []) 15 (two-goes 1 cs at (plain-two 1 (drop at cs) refl ∙ f) h ∙ ap (λ (x : ℕ). x ∷ run 1 (drop (at + 15) cs)) (sym e)) (omega arith) new
+  begun-two p new e h =
+      let f = found-two (drop at cs) p (ap nextTwoBit (sym (part-rest cs at)) ∙ e) in
+      begun-more (p ∷ []) 15 (two-goes 1 cs at (plain-two 1 (drop at cs) refl ∙ f .0) h ∙ ap (λ (x : ℕ). x ∷ run 1 (drop (at + 15) cs)) (sym (f .1)))
+      (omega arith) new
 
-  pub begun-five : (p : ℕ) (new : List ℕ) → p ≡ fiveBitPart (drop at cs) → plain 15 (drop at cs) ≡ false → 6 < length cs - at
+  pub begun-five : (p : ℕ) (new : List ℕ) → nextTwoBit (midOf at (length cs - at) cs) ≡ NotPlain → p ≡ fiveBitPart (drop at cs) → 6 < length cs - at
       → new ≡ writtenAt (4 * count) (bytesOf (p ∷ [])) out → RunBegun cs d (count + 1) (at + 6) new
-  begun-five p new e f h =
-      begun-more (p ∷ []) 6 (five-goes 1 cs at (plain-two 1 (drop at cs) refl ∙ f) h ∙ ap (λ (x : ℕ). x ∷ run 1 (drop (at + 6) cs)) (sym e)) (omega arith) new
+  begun-five p new e q h =
+      let f = missed-two (drop at cs) (ap nextTwoBit (sym (part-rest cs at)) ∙ e) in
+      begun-more (p ∷ []) 6 (five-goes 1 cs at (plain-two 1 (drop at cs) refl ∙ f) h ∙ ap (λ (x : ℕ). x ∷ run 1 (drop (at + 6) cs)) (sym q)) (omega arith) new
 
   -- blocks of 2-bit packets, made of a part of the codes, and written at the start of a part of the output
   pub begun-room : (start : ℕ) → validCodes 1 cs ≡ true → start ≡ 4 * count

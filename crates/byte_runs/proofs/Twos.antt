@@ -17,7 +17,7 @@ use Rattle.laws.proofs.Parts.{part-rest}
 use Rattle.laws.proofs.Places.{every-at, every-all}
 use Rattle.laws.proofs.Tests.{bool-cases, both-pass}
 use Rattle.packets.specs.Packing.{fourFrom, plain, twoBitPart}
-use Rattle.packets.proofs.Bases.{plain-fours, bases-sum}
+use Rattle.packets.proofs.Bases.{bases-sum}
 use Rattle.packets.proofs.Faults.{or-none}
 use Rattle.packets.proofs.Packing.{plain-long, plain-below, below-plain}
 use Rattle.byte_runs.specs.Packed.{FourBases, moved, plainParts}
@@ -109,13 +109,6 @@ module _ (cs : List ℕ) (at : ℕ) (e : plain 15 (drop at cs) ≡ true) where
   two-sum x y z w a b c d ex ea ey eb ez ec ew ed =
       bases-sum (drop at cs) e x y z w (ex ∙ ap moved (ea ∙ four-drop cs at 0 at (omega arith))) (ey ∙ ap moved (eb ∙ four-drop cs at 4 (at + 4) refl))
       (ez ∙ ap moved (ec ∙ four-drop cs at 8 (at + 8) refl)) (ew ∙ ap moved (ed ∙ four-drop cs at 11 (at + 11) refl))
-
-pub plain-told : (cs : List ℕ) (at a b c d : ℕ) → ((k : ℕ) → getD cs k 0 < 256) → at + 15 ≤ length cs → a ≡ fourFrom cs at → b ≡ fourFrom cs (at + 4)
-    → c ≡ fourFrom cs (at + 8) → d ≡ fourFrom cs (at + 11)
-    → eqb (bitOr (bitOr (bitAnd a 0xfcfcfcfc) (bitAnd b 0xfcfcfcfc)) (bitOr (bitAnd c 0xfcfcfcfc) (bitAnd d 0xfcfcfcfc))) 0 ≡ plain 15 (drop at cs)
-plain-told cs at a b c d f h ea eb ec ed =
-    plain-fours (drop at cs) (λ k. rw (getD-drop at cs k 0) (f (at + k))) a b c d (omega (arith, length-drop at cs)) (ea ∙ four-drop cs at 0 at (omega arith))
-    (eb ∙ four-drop cs at 4 (at + 4) refl) (ec ∙ four-drop cs at 8 (at + 8) refl) (ed ∙ four-drop cs at 11 (at + 11) refl)
 
 -- ---- many codes
 

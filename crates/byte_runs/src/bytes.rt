@@ -9,23 +9,12 @@ ghost use Rattle.fields.specs.Written.{littleBytes};
 ghost use Rattle.packets.specs.Packing.{fourFrom};
 ghost use Rattle.packets.specs.Bytes.{packetsOf, bytesOf};
 
-// A byte as a wider number.
-pub(crate) fn wide(b: u8) -> u32
-    ensures value { λ r. ⌜ r ≡ b ⌝ }
-    ensures small { λ r. ⌜ r < 256 ⌝ }
-{
-    b as u32
-}
-
 // Four bytes from a place on, as a number, the first lowest.
 pub(crate) fn four_at(bytes: &[u8], at: usize) -> u32
     requires { ⌜ at + 4 ≤ length (now bytes) ⌝ }
     ensures { λ r. ⌜ r ≡ fourFrom (now (bytes .entry)) at ⌝ }
 {
-    wide(bytes[at])
-        + wide(bytes[at + 1]) * 256
-        + wide(bytes[at + 2]) * 65536
-        + wide(bytes[at + 3]) * 16777216
+    fields::word(bytes[at], bytes[at + 1], bytes[at + 2], bytes[at + 3])
 }
 
 // The packet at a place.

@@ -1,8 +1,8 @@
 // Writing the run of a sequence as little-endian bytes.
 use crate::bytes::four_at;
 use crate::bytes::put_packet;
-use crate::bytes::wide;
 use packets::PacketPos;
+use packets::TwoBit;
 ghost use mathlib.Core.Path.{_≡_};
 ghost use mathlib.Core.Bool.{true, _&&_};
 ghost use Prim.Native.Nat.{_+_, _*_, _-_, _/_, _≤_, _<_, min};
@@ -27,7 +27,7 @@ fn two_at(codes: &[u8], at: usize) -> u32
     requires { ⌜ at + 2 ≤ length (now codes) ⌝ }
     ensures { λ r. ⌜ r ≡ getD (now (codes .entry)) at 0 + getD (now (codes .entry)) (at + 1) 0 * 256 ⌝ }
 {
-    wide(codes[at]) + wide(codes[at + 1]) * 256
+    fields::word(codes[at], codes[at + 1], 0, 0)
 }
 
 // The 5-bit packet of six codes, of which four and two are the bytes of a number.
@@ -143,15 +143,7 @@ fn four_shifted(codes: u32) -> u32
     pairs % 65536 * 16 + pairs / 65536
 }
 
-// The same by a product, which is quicker for one packet.
-fn four_moved(codes: u32) -> u32
-    ensures value { λ r. ⌜ r ≡ moved codes ⌝ }
-    ensures small { λ r. ⌜ r < 256 ⌝ }
-{
-    (codes as u64 * 0x40100401 / 16777216 % 256) as u32
-}
-
-// The 2-bit packet of fifteen codes from a place on, as one of many.
+// The 2-bit packet of fifteen codes from a place on.
 fn two_packet(codes: &[u8], at: usize) -> u32
     requires { ⌜ (at + 15 ≤ length (now codes)) × (plain 15 (drop at (now codes)) ≡ true) ⌝ }
     ensures { λ r. ⌜ r ≡ twoBitPart (drop at (now (codes .entry))) ⌝ }
@@ -160,27 +152,6 @@ fn two_packet(codes: &[u8], at: usize) -> u32
         + four_shifted(four_at(codes, at + 4)) * 16384
         + four_shifted(four_at(codes, at + 8)) * 64
         + four_shifted(four_at(codes, at + 11)) % 64
-}
-
-// The same as a single one.
-fn two_single(codes: &[u8], at: usize) -> u32
-    requires { ⌜ (at + 15 ≤ length (now codes)) × (plain 15 (drop at (now codes)) ≡ true) ⌝ }
-    ensures { λ r. ⌜ r ≡ twoBitPart (drop at (now (codes .entry))) ⌝ }
-{
-    four_moved(four_at(codes, at)) * 4194304
-        + four_moved(four_at(codes, at + 4)) * 16384
-        + four_moved(four_at(codes, at + 8)) * 64
-        + four_moved(four_at(codes, at + 11)) % 64
-}
-
-// Whether fifteen codes from a place on are below 4.
-fn plain_at(codes: &[u8], at: usize) -> bool
-    requires { ⌜ at + 15 ≤ length (now codes) ⌝ }
-    ensures { λ r. ⌜ r ≡ plain 15 (drop at (now (codes .entry))) ⌝ }
-{
-    let first = four_at(codes, at) & 0xfcfcfcfc | four_at(codes, at + 4) & 0xfcfcfcfc;
-    let last = four_at(codes, at + 8) & 0xfcfcfcfc | four_at(codes, at + 11) & 0xfcfcfcfc;
-    first | last == 0
 }
 
 // Whether the first two hundred and forty codes are below 4 and more follow.
@@ -247,17 +218,17 @@ fn write_inner(codes: &[u8], out: &mut [u8]) -> Written
             row = 0;
             continue;
         }
-        if plain_at(codes, at) {
-            put_packet(two_single(codes, at), out, PacketPos(count as u64));
-            at += 15;
+        let TwoBit::Packet(packet) = packets::next_two_bit(&codes[at..]) else {
+            put_packet(five_packet(codes, at), out, PacketPos(count as u64));
+            at += 6;
             count += 1;
-            row += 1;
+            row = 0;
             continue;
-        }
-        put_packet(five_packet(codes, at), out, PacketPos(count as u64));
-        at += 6;
+        };
+        put_packet(packet, out, PacketPos(count as u64));
+        at += 15;
+        row += 1;
         count += 1;
-        row = 0;
     }
     Written {
         packets: count,

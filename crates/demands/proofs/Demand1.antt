@@ -21,7 +21,8 @@ use Rattle.packets.specs.Positions.{byteOf}
 use Rattle.packets.specs.Packing.{run}
 use Rattle.packets.specs.Runs.{unpacked}
 use Rattle.packets.specs.Bytes.{packetsOf, bytesOf}
-use Rattle.runs.specs.Answers.{packRules, packAnswer, packNumber, packValues, ifPacked, packetsAfter, unpackAnswer, unpackNumber, unpackValues, ifUnpacked, codesAfter}
+use Rattle.runs.specs.Answers.{packRules, packAnswer, packNumber, packValues, ifPacked, packetsAfter}
+use Rattle.runs.specs.Answers.{unpackAnswer, unpackNumber, unpackValues, ifUnpacked, codesAfter}
 use Rattle.byte_runs.specs.Bytes.{packBytesAnswer, bytesAfter, runIn, unpackBytesAnswer, codesAfterBytes}
 use Rattle.packets.specs.declared.RunLength.{RunLength}
 use Rattle.packets.specs.declared.RunLength.the-variants as Run

@@ -18,7 +18,8 @@ use Rattle.volume.specs.Tables.{sequenceStart, proteinLength, dnaEnd, dnaLength
 use Rattle.sequence.specs.declared.DecodeAnswer.the-variants.{Decoded}
 use Rattle.sequence.specs.Bases.{baseAt}
 use Rattle.sequence.specs.Corrections.{entryWidth, entryCount, correctionAt, correctedAt, rangeRules}
-use Rattle.sequence.specs.Sequence.{byteFrom, rangeEnd, dnaEntryRules, dnaRules, decodeRules, decodeAnswer, decodeNumber, proteinDecoded, dnaDecoded, residuesOf, decodeOutput}
+use Rattle.sequence.specs.Sequence.{byteFrom, rangeEnd, dnaEntryRules, dnaRules, decodeRules, decodeAnswer}
+use Rattle.sequence.specs.Sequence.{decodeNumber, proteinDecoded, dnaDecoded, residuesOf, decodeOutput}
 use Rattle.sequence.specs.Holds.{HasEntries}
 use Rattle.sequence.proofs.Answers.{residues-protein, residues-dna, output-by}
 use Rattle.sequence.proofs.Corrected.{length-residues, residue-at}

@@ -19,7 +19,9 @@ use Rattle.volume.specs.Volume.{volumeRules}
 use Rattle.sequence.specs.Sequence.{decodeRules}
 use Rattle.listing.specs.Listing.{listingSizeRules}
 use Rattle.dsqdata.specs.Header.{countOf}
-use Rattle.dsqdata.specs.Check.{rulesTo, sizeRules, startRules, tagRules, fileRules, headerRules, countRules, bodyRules, layoutRules, endsRules, rulesOfRun, setRunRules, rulesOfRecord, recordRules, statedRules, totalRules, behindRuns, restRules, contentRules, setRules}
+use Rattle.dsqdata.specs.Check.{rulesTo, sizeRules, startRules, tagRules, fileRules, headerRules, countRules}
+use Rattle.dsqdata.specs.Check.{bodyRules, layoutRules, endsRules, rulesOfRun, setRunRules, rulesOfRecord}
+use Rattle.dsqdata.specs.Check.{recordRules, statedRules, totalRules, behindRuns, restRules, contentRules, setRules}
 use Rattle.dsqdata.specs.Lookup.{partRules, lookupRules}
 use Rattle.dsqdata.specs.declared.SetRecord.{SetRecord}
 use Rattle.elements.specs.declared.ElementAnswer.{ElementAnswer}

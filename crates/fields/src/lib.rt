@@ -55,7 +55,7 @@ fn wide(b: u8) -> u32
 }
 
 // Four bytes as one number, the first the lowest.
-fn word(a: u8, b: u8, c: u8, d: u8) -> u32
+pub fn word(a: u8, b: u8, c: u8, d: u8) -> u32
     ensures value { λ r. ⌜ r ≡ a + b * 256 + c * 65536 + d * 16777216 ⌝ }
     ensures bytes { λ r. ⌜ littleBytes 4 r ≡ a ∷ b ∷ c ∷ d ∷ [] ⌝ }
 {

@@ -6,7 +6,8 @@ use native.Mathlib.Nat.{add-assoc}
 use native.Mathlib.Numerals.{add-one}
 use native.Mathlib.Omega.{arith}
 use lib.ListN.{length, take, drop, getD, set, length-append, length-take, length-drop, take-append-drop}
-use lib.Seq.{paste, paste-suc, length-paste-head, length-take-le, take-length, take-at, drop-at, take-add, drop-drop, take-append-seam, drop-append-seam, drop-cons}
+use lib.Seq.{paste, paste-suc, length-paste-head, length-take-le, take-length, take-at, drop-at}
+use lib.Seq.{take-add, drop-drop, take-append-seam, drop-append-seam, drop-cons}
 use Rattle.laws.specs.Writing.{writtenAt}
 
 module _ {ℓ} {A : Type ℓ} where

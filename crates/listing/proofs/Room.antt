@@ -21,7 +21,8 @@ use Rattle.volume.specs.Volume.{volumeRecord, volumeAnswer}
 use Rattle.volume.specs.Holds.{FieldsHold}
 use Rattle.volume.proofs.Exact.{passed-rules}
 use Rattle.listing.proofs.Texts.{head-size, volume-size}
-use Rattle.listing.specs.Listing.{space, lineFeed, lastDigits, decimal, numberThen, proteinWord, dnaWord, typeText, headText, lengthText, lengthsText, refusedText, listingSizeRules, listedAnswer, volumeText, answerText, listingText, listingRoom}
+use Rattle.listing.specs.Listing.{space, lineFeed, lastDigits, decimal, numberThen, proteinWord, dnaWord, typeText, headText, lengthText}
+use Rattle.listing.specs.Listing.{lengthsText, refusedText, listingSizeRules, listedAnswer, volumeText, answerText, listingText, listingRoom}
 
 digits-length : (k n : ℕ) → length (lastDigits k n) ≤ k
 unfolding lastDigits

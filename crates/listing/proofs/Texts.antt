@@ -15,7 +15,8 @@ use Rattle.laws.specs.Writing.{writtenAt}
 use Rattle.laws.proofs.Writing.{written-twice, paste-whole}
 use Rattle.volume.specs.declared.VolumeRecord.{VolumeRecord}
 use Rattle.volume.specs.Tables.{lengthOfNumber}
-use Rattle.listing.specs.Listing.{space, lineFeed, digitOf, lastDigits, decimal, numberThen, typeText, headText, lengthText, lengthsText, volumeText, listingText, Put}
+use Rattle.listing.specs.Listing.{space, lineFeed, digitOf, lastDigits, decimal, numberThen, typeText}
+use Rattle.listing.specs.Listing.{headText, lengthText, lengthsText, volumeText, listingText, Put}
 
 -- ---- texts
 

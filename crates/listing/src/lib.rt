@@ -8,7 +8,8 @@ ghost use Prim.Native.Nat.{_+_, _≤_, _<_};
 ghost use lib.ListN.{length};
 ghost use Rattle.laws.specs.Writing.{writtenAt};
 ghost use Rattle.volume.specs.Tables.{lengthOfNumber};
-ghost use Rattle.listing.specs.Listing.{digitOf, decimal, numberThen, typeText, headText, lengthText, lengthsText, refusedText, listedAnswer, volumeText, listingText, Put};
+ghost use Rattle.listing.specs.Listing.{digitOf, decimal, numberThen, typeText, headText, lengthText};
+ghost use Rattle.listing.specs.Listing.{lengthsText, refusedText, listedAnswer, volumeText, listingText, Put};
 
 // The most bytes of a file that is listed.
 pub const MOST_LISTED: usize = 16384;

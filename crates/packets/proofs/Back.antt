@@ -16,7 +16,8 @@ use Rattle.laws.proofs.Digits.{length-digits, below-parts, value-digits}
 use Rattle.residues.specs.Alphabets.{isAmino, codeLimit}
 use Rattle.packets.specs.Packing.{plain, isTwoBit, filled, size, run}
 use Rattle.packets.specs.Runs.{endsRun, isFiveBit, beforeFill, residues, onlyFill, validTailed, inner, final, formed, wellFormed, unpacked}
-use Rattle.packets.proofs.Packing.{plain-short, plain-two, two-plain, amino-five, filled-whole, size-two, size-five, packet-two, packet-five, run-last, run-more}
+use Rattle.packets.proofs.Packing.{plain-short, plain-two, two-plain, amino-five, filled-whole, size-two}
+use Rattle.packets.proofs.Packing.{size-five, packet-two, packet-five, run-last, run-more}
 use Rattle.packets.proofs.Round.{formed-well, unpacked-cons, unpacked-nil}
 use Rattle.packets.proofs.Codes.{residues-five, residues-two}
 use Rattle.packets.proofs.Shapes.{inner-bit, final-bit, inner-six, final-tailed, five-most, two-plain-codes, inner-nucleic, final-nucleic, rest-some}

@@ -16,7 +16,8 @@ use Rattle.residues.specs.Alphabets.{isAmino, codeLimit, validCodes}
 use Rattle.residues.proofs.Alphabets.{limit-most, valid-below}
 use Rattle.packets.specs.Packing.{isTwoBit, filled, twoBitPart, fiveBitPart, endBit, packetOf, size, packet}
 use Rattle.packets.specs.Runs.{endsRun, isFiveBit, beforeFill, residues, onlyFill, validTailed, inner, final}
-use Rattle.packets.proofs.Packing.{two-plain, two-long, two-below, five-below, plain-below, filled-below, filled-whole, length-filled, size-two, size-five}
+use Rattle.packets.proofs.Packing.{two-plain, two-long, two-below, five-below, plain-below}
+use Rattle.packets.proofs.Packing.{filled-below, filled-whole, length-filled, size-two, size-five}
 use Rattle.packets.proofs.Codes.{residues-is, inner-is, final-is}
 
 -- ---- the filled codes

@@ -12,7 +12,8 @@ use Rattle.laws.specs.Digits.{value, allBelow}
 use Rattle.laws.proofs.Tests.{never, bool-cases, both-pass}
 use Rattle.laws.proofs.Digits.{below-parts, below-cons, below-none, value-below}
 use Rattle.residues.specs.Alphabets.{isAmino, codeLimit}
-use Rattle.packets.specs.Packing.{plain, isTwoBit, sizeOf, filled, twoBitPart, fiveBitPart, endBit, packetOf, size, packet, later, run}
+use Rattle.packets.specs.declared.TwoBit.the-variants.{Packet, NotPlain}
+use Rattle.packets.specs.Packing.{plain, isTwoBit, sizeOf, filled, twoBitPart, nextTwoBit, fiveBitPart, endBit, packetOf, size, packet, later, run}
 
 -- ---- plain codes
 
@@ -41,6 +42,24 @@ below-plain (suc n) [] h e = let z : ⊥ = omega arith in absurd z
 below-plain (suc n) (c ∷ cs) h e =
     let p = below-parts 4 c (take n cs) e in
     rw (lt-ltb c 4 (p .0)) (below-plain n cs (omega arith) (p .1))
+
+-- the 2-bit packet that comes next is found exactly where fifteen do
+pub two-found : (cs : List ℕ) (p : ℕ) → plain 15 cs ≡ true → p ≡ twoBitPart cs → Packet p ≡ nextTwoBit cs
+unfolding nextTwoBit
+two-found cs p e f = rw (e, f)
+
+pub two-missed : (cs : List ℕ) → plain 15 cs ≡ false → NotPlain ≡ nextTwoBit cs
+unfolding nextTwoBit
+two-missed cs e = rw e
+
+pub found-two : (cs : List ℕ) (p : ℕ) → nextTwoBit cs ≡ Packet p → (plain 15 cs ≡ true) × (p ≡ twoBitPart cs)
+found-two cs p f =
+    bool-cases (plain 15 cs)
+    (λ e. let g = two-found cs (twoBitPart cs) e refl ∙ f in (e, (cc)))
+    (λ e. let g = two-missed cs e ∙ f in ((cc), (cc)))
+
+pub missed-two : (cs : List ℕ) → nextTwoBit cs ≡ NotPlain → plain 15 cs ≡ false
+missed-two cs f = bool-cases (plain 15 cs) (λ e. let g = two-found cs (twoBitPart cs) e refl ∙ f in (cc)) (λ e. e)
 
 -- ---- the codes of a packet
 

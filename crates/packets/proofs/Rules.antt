@@ -18,7 +18,8 @@ use Rattle.packets.specs.Rules.{Bit, fiveBitCode, WellFormed}
 use Rattle.packets.proofs.Packing.{limit-some}
 use Rattle.packets.proofs.Codes.{inner-is, final-is, residues-five}
 use Rattle.packets.proofs.Round.{formed-well}
-use Rattle.packets.proofs.Shapes.{inner-bit, final-bit, inner-valid, final-tailed, two-fifteen, inner-nucleic, final-nucleic, well-some, well-inner, well-final}
+use Rattle.packets.proofs.Shapes.{inner-bit, final-bit, inner-valid, final-tailed, two-fifteen}
+use Rattle.packets.proofs.Shapes.{inner-nucleic, final-nucleic, well-some, well-inner, well-final}
 
 -- ---- the codes of a packet by their places
 

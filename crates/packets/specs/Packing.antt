@@ -8,6 +8,8 @@ use lib.Dec.{leb, ltb}
 use lib.ListN.{length, take, getD}
 use Rattle.laws.specs.Digits.{value}
 use Rattle.residues.specs.Alphabets.{isAmino}
+use Rattle.packets.specs.declared.TwoBit.{TwoBit}
+use Rattle.packets.specs.declared.TwoBit.the-variants.{Packet, NotPlain}
 
 -- At least n residues remain and the next n codes are all below 4.
 unfoldable pub plain : ℕ → List ℕ → Bool
@@ -36,6 +38,10 @@ filled (suc n) (c ∷ next) = c ∷ filled n next
 -- Fifteen 2-bit codes, the first highest; bit 30 is clear.
 abbrev pub twoBitPart : List ℕ → ℕ
 twoBitPart next = value 2 0 (take 15 next)
+
+-- The 2-bit packet, with bit 31 clear, where fifteen codes below 4 come next.
+unfoldable pub nextTwoBit : List ℕ → TwoBit
+nextTwoBit next = cond (plain 15 next) (Packet (twoBitPart next)) NotPlain
 
 -- Bit 30, and six 5-bit codes from bit 29 down.
 abbrev pub fiveBitPart : List ℕ → ℕ

@@ -1,5 +1,6 @@
 // One packet from codes: the packing rule's next packet, and the test of all codes of a sequence.
 use crate::Next;
+use crate::TwoBit;
 ghost use mathlib.Core.Path.{_≡_};
 ghost use mathlib.Core.Bool.{true};
 ghost use Prim.Native.Nat.{_+_, _*_, _/_, _^_, _%_, _≤_, _<_, max};
@@ -7,7 +8,7 @@ ghost use lib.Dec.{leb};
 ghost use lib.ListN.{length, getD};
 ghost use Rattle.laws.specs.Places.{largestTo};
 ghost use Rattle.residues.specs.Alphabets.{validCodes};
-ghost use Rattle.packets.specs.Packing.{sixes, fourFrom, plain, isTwoBit, sizeOf, twoBitPart, fiveBitPart, endBit, packetOf};
+ghost use Rattle.packets.specs.Packing.{sixes, fourFrom, plain, isTwoBit, sizeOf, twoBitPart, nextTwoBit, fiveBitPart, endBit, packetOf};
 
 // The larger of two codes.
 fn larger(a: u8, b: u8) -> u8
@@ -63,10 +64,7 @@ fn four_at(next: &[u8], at: usize) -> u64
     ensures value { λ r. ⌜ r ≡ fourFrom (now (next .entry)) at ⌝ }
     ensures small { λ r. ⌜ r < 2 ^ 32 ⌝ }
 {
-    wide(next[at])
-        + wide(next[at + 1]) * 256
-        + wide(next[at + 2]) * 65536
-        + wide(next[at + 3]) * 16777216
+    fields::word(next[at], next[at + 1], next[at + 2], next[at + 3]) as u64
 }
 
 // Four codes below 4, each in its byte, as one number of four digits: the product moves each to its digit.
@@ -110,6 +108,16 @@ fn two_bit(next: &[u8]) -> u64
         + four_bases(four_at(next, 4)) * 16384
         + four_bases(four_at(next, 8)) * 64
         + four_bases(four_at(next, 11)) % 64
+}
+
+// The 2-bit packet of the next fifteen codes, where they are all below 4.
+pub fn next_two_bit(next: &[u8]) -> TwoBit
+    ensures { λ r. ⌜ r ≡ nextTwoBit (now (next .entry)) ⌝ }
+{
+    if plain_next(next) {
+        return TwoBit::Packet(two_bit(next) as u32);
+    }
+    TwoBit::NotPlain
 }
 
 // The code at a place; 31 past the end.

@@ -2,6 +2,7 @@
 mod encoding;
 
 pub use encoding::encode;
+pub use encoding::next_two_bit;
 pub use encoding::sixes_of;
 pub use encoding::valid_codes;
 ghost use mathlib.Core.Path.{_≡_};
@@ -26,6 +27,12 @@ pub struct BytePos(pub u64);
 pub struct Next {
     pub packet: u32,
     pub size: usize,
+}
+
+// The 2-bit packet of the next fifteen codes, with bit 31 clear, or that fifteen codes below 4 do not come next.
+pub enum TwoBit {
+    Packet(u32),
+    NotPlain,
 }
 
 // What reading packets as a run finds: the number of its residues, or that it is not well formed.

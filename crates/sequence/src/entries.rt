@@ -22,7 +22,8 @@ ghost use Rattle.answers.specs.Limits.{checkedBy};
 ghost use Rattle.volume.specs.Index.{indexOf};
 ghost use Rattle.sequence.specs.Corrections.{rangeRules};
 ghost use Rattle.sequence.specs.Sequence.{dnaResidues, writtenBy};
-ghost use Rattle.sequence.specs.Placed.{proteinEntry, dnaEntry, proteinPlaceRules, dnaPlaceRules, placedProteinAnswer, placedProteinResidues, placedDnaAnswer, placedDnaResidues};
+ghost use Rattle.sequence.specs.Placed.{proteinEntry, dnaEntry, proteinPlaceRules, dnaPlaceRules};
+ghost use Rattle.sequence.specs.Placed.{placedProteinAnswer, placedProteinResidues, placedDnaAnswer, placedDnaResidues};
 
 // The entries of a protein sequence.
 pub(crate) fn protein_entry(index: &[u8], x: Index, i: usize) -> Entry

@@ -11,7 +11,9 @@ ghost use lib.Signed.{nonNeg};
 ghost use Rattle.laws.specs.Signed.{toNat, eqZ};
 ghost use Rattle.fields.specs.Number.{big, little, signedAt};
 ghost use Rattle.answers.specs.Limits.{checkedBy};
-ghost use Rattle.volume.specs.Index.{volumeType, isType, isProtein, titleLength, titleEnd, timestampLength, timestampEnd, sequences, residueCount, longest, sequenceTable, ambiguityTable, tablesEnd, titleRules, timestampRules, countRules, tableRules, indexRules, indexOf};
+ghost use Rattle.volume.specs.Index.{volumeType, isType, isProtein, titleLength, titleEnd, timestampLength, timestampEnd};
+ghost use Rattle.volume.specs.Index.{sequences, residueCount, longest, sequenceTable, ambiguityTable, tablesEnd};
+ghost use Rattle.volume.specs.Index.{titleRules, timestampRules, countRules, tableRules, indexRules, indexOf};
 
 // The most sequences of a volume.
 const MOST_SEQUENCES: usize = 134217728;

@@ -22,7 +22,9 @@ ghost use Rattle.laws.specs.Rules.{AllHold};
 ghost use Rattle.laws.specs.Signed.{toNat, eqZ};
 ghost use Rattle.answers.specs.Limits.{checkedBy};
 ghost use Rattle.volume.specs.Index.{sequences, tableSize, sequenceTable, ambiguityTable, tablesEnd};
-ghost use Rattle.volume.specs.Tables.{offsetAt, notBelow, above, ambiguityBetween, headerOffsetRules, proteinOffsetRules, dnaOffsetRules, sequenceOffsetRules, offsetRules, proteinLength, twoBitLength, dnaLength, proteinSeparatorRules, separatorRules, statedRules, totalsOf, totalRules};
+ghost use Rattle.volume.specs.Tables.{offsetAt, notBelow, above, ambiguityBetween, headerOffsetRules, proteinOffsetRules};
+ghost use Rattle.volume.specs.Tables.{dnaOffsetRules, sequenceOffsetRules, offsetRules, proteinLength, twoBitLength, dnaLength};
+ghost use Rattle.volume.specs.Tables.{proteinSeparatorRules, separatorRules, statedRules, totalsOf, totalRules};
 
 // The first offset of a nucleotide file.
 const FIRST_NUCLEOTIDE_OFFSET: usize = 0;

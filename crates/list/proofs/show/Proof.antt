@@ -38,7 +38,10 @@ loop-less : tie.Need-loop-less Inv-loop μ-loop
 loop-less c = search needs
 
 loop-again : tie.Need-loop-again Inv-loop μ-loop
-loop-again c = (omega arith, omega (arith, (c .before .before .put-shown) .ensures, (c .before .shown) .given, (c .before .before .before .before .before .before .before .loop) .inv .1), (c .before .shown) .given ∙ (c .before .before .before .before .before .before .before .loop) .inv .2)
+loop-again c =
+    let inv = (c .before .before .before .before .before .before .before .loop) .inv in
+    let told = (c .before .shown) .given in
+    (omega arith, omega (arith, (c .before .before .put-shown) .ensures, told, inv .1), told ∙ inv .2)
 
 same-length-2 : tie.Need-same-length-2 Inv-loop μ-loop
 same-length-2 c = (c .before .loop) .inv .2

@@ -39,15 +39,22 @@ same-length c = search needs
 returns : tie.Need-returns
 unfolding headText
 returns c =
-    let v = (c .before .before .before .before .before .before .before .before .before .before .before .before .before .before .before .before .before .args) .v in
+    let third = c .before .before in
+    let second = third .before .before .before .before in
+    let first = second .before .before .before .before in
+    let word = first .before .before .before .before in
+    let i = word .before .before .before in
+    let v = (i .args) .v in
     let r = numberThen (v .residues) space in
     let l = numberThen (v .longest) lineFeed in
     let e = length-append (numberThen (v .sequences) space) (r ++ l) in
     let f = length-append r l in
-    let w = (c .before .before .before .before .before .before .before .before .before .before .before .before .before .before .put-type) .ensures in
-    let x = (c .before .before .before .before .before .before .before .before .before .before .put-number) .ensures in
-    let y = (c .before .before .before .before .before .before .put-number2) .ensures in
-    put-first (c .before .before .before .before .before .before .before .before .before .before .before .before .before .before .before .before .before .pre) w (put-then (omega (arith, head-size v, w .place)) x (put-then (omega (arith, head-size v, w .place, x .place)) y ((c .before .before .put-number3) .ensures)))
+    let w = (word .put-type) .ensures in
+    let x = (first .put-number) .ensures in
+    let y = (second .put-number2) .ensures in
+    put-first (i .pre) w
+    (put-then (omega (arith, head-size v, w .place)) x
+    (put-then (omega (arith, head-size v, w .place, x .place)) y ((third .put-number3) .ensures)))
 
 pub put-head-spec : {M : Type 1} → statement M
 put-head-spec =

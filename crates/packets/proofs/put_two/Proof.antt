@@ -46,19 +46,25 @@ same-length : tie.Need-same-length
 same-length c = search needs
 
 returns : tie.Need-returns
-returns c = let a = (c .before .before .before .before .before .before .before .before .before .before .before .before .before .before .before .before .before .before .before .before .before .args) in
-    let x₁ = (c .before .before .before .before .before .before .before .before .before .before .before .before .before .before .before .before .before .before .four-codes) in
-    let x₂ = (c .before .before .before .before .before .before .before .before .before .before .before .before .before .four-codes2) in
-    let x₃ = (c .before .before .before .before .before .before .before .before .four-codes3) in
-    let x₄ = (c .before .before .before .four-codes4) in
-    (c .before .before .put-u324) .ensures
+returns c =
+    let fourth = c .before .before in
+    let third = fourth .before .before .before .before .before in
+    let second = third .before .before .before .before .before in
+    let first = second .before .before .before .before .before in
+    let i = first .before .before .before .before in
+    let a = (i .args) in
+    let x₁ = (first .before .four-codes) in
+    let x₂ = (second .before .four-codes2) in
+    let x₃ = (third .before .four-codes3) in
+    let x₄ = (fourth .before .four-codes4) in
+    (fourth .put-u324) .ensures
     ∙ ap (λ (l : List ℕ). numberPut 4 (a .at + 11) (x₄ .result) l)
-    ((c .before .before .before .before .before .before .before .put-u323) .ensures ∙ ap (λ (l : List ℕ). numberPut 4 (a .at + 8) (x₃ .result) l)
-    ((c .before .before .before .before .before .before .before .before .before .before .before .before .put-u322) .ensures ∙ ap
-    (λ (l : List ℕ). numberPut 4 (a .at + 4) (x₂ .result) l)
-    ((c .before .before .before .before .before .before .before .before .before .before .before .before .before .before .before .before .before .put-u32) .ensures)))
+    ((third .put-u323) .ensures
+    ∙ ap (λ (l : List ℕ). numberPut 4 (a .at + 8) (x₃ .result) l)
+    ((second .put-u322) .ensures
+    ∙ ap (λ (l : List ℕ). numberPut 4 (a .at + 4) (x₂ .result) l) ((first .put-u32) .ensures)))
     ∙ fours-written (a .at) (now (a .out)) (a .packet) (x₁ .result) (x₂ .result) (x₃ .result) (x₄ .result)
-    ((c .before .before .before .before .before .before .before .before .before .before .before .before .before .before .before .before .before .before .before .before .before .pre)) (x₁ .ensures) (x₂ .ensures) (x₃ .ensures) (x₄ .ensures)
+    (i .pre) (x₁ .ensures) (x₂ .ensures) (x₃ .ensures) (x₄ .ensures)
 
 pub put-two-spec : {M : Type 1} → statement M
 put-two-spec =

@@ -66,10 +66,11 @@ same-length c = search needs
 
 returns-3 : tie.Need-returns-3
 returns-3 c =
-    let a = (c .before .before .before .before .before .before .before .before .before .before .before .before .before .before .before .before .before .before .before .before .before .args) in
-    set-passed (now (a .index)) (now (a .metadata)) (now (a .sequence)) (now (a .results)) _ _
-    (le-leb 80 _ ((c .before .before .before .before .before .before .before .before .before .before .before .before .if1) .left))
-    (sym ((c .before .before .before .before .before .before .before .before .before .before .before .before .before .before .before .before .check-set) .ensures) ∙ (c .before .before .before .before .before .before .before .before .before .before .before .before .before .before .set) .given .1) ((c .before .before .put-results) .ensures)
+    let room = c .before .before .before .before .before .before .before .before .before .before .before .before in
+    let told = room .before .before in
+    let a = (told .before .before .before .before .before .before .before .args) in
+    set-passed (now (a .index)) (now (a .metadata)) (now (a .sequence)) (now (a .results)) _ _ (le-leb 80 _ ((room .if1) .left))
+    (sym ((told .before .before .check-set) .ensures) ∙ (told .set) .given .1) ((c .before .before .put-results) .ensures)
 
 pub gull-time-check-set-spec : {M : Type 1} → statement M
 gull-time-check-set-spec =

@@ -1,6 +1,6 @@
 -- `byte_runs::packing::write_inner`: the packets written so far, and the run of the codes still to read. Assumes nothing.
-use mathlib.Core.Path.{sym, _∙_}
-use Prim.Native.Nat.{_≤_, _-_, _+_, _*_, _/_}
+use mathlib.Core.Path.{_≡_, sym, _∙_}
+use Prim.Native.Nat.{_≤_, _<_, _-_, _+_, _*_, _/_}
 use native.Mathlib.Omega.{arith}
 use lib.ListN.{length}
 use denote.Ref.{now}
@@ -17,6 +17,13 @@ Inv-loop codes out₀ at₀ count₀ row₀ out at count row = RunBegun codes ou
 
 abbrev μ-loop : tie.MeasureT-loop
 μ-loop codes out₀ at₀ count₀ row₀ out at count row = 2 * (length codes - at) + row / 16
+
+-- at a turn there is room for one packet more, and the place of the next is counted in bytes
+room : (l : tie.At-loop Inv-loop μ-loop) → (l .loop) .count < length ((l .loop) .out) / 4
+room l = begun-place _ _ _ _ _ ((l .loop) .inv .0) ((l .before .before .before .pre) .1)
+
+start : (s : tie.After-byte-of Inv-loop μ-loop) → (s .byte-of) .result .0 ≡ 4 * (s .before .before .before .loop) .count
+start s = omega (arith, (s .byte-of) .ensures, room (s .before .before .before))
 
 loop-holds : tie.Need-loop-holds Inv-loop μ-loop
 loop-holds c = (begun-none (now ((c .before .before .args) .codes)) (now ((c .before .before .args) .out)), omega arith)
@@ -40,28 +47,19 @@ sub-write-twos-2 : tie.Need-sub-write-twos-2 Inv-loop μ-loop
 sub-write-twos-2 c = search needs
 
 part-write-twos-start-2 : tie.Need-part-write-twos-start-2 Inv-loop μ-loop
-part-write-twos-start-2 c = omega (
-  arith,
-  (c .before .byte-of) .ensures,
-  begun-place _ _ _ _ _ ((c .before .before .before .before .loop) .inv .0)
-      ((c .before .before .before .before .before .before .before .pre) .1),
-)
+part-write-twos-start-2 c = omega (arith, start (c .before), room (c .before .before .before .before))
 
 part-write-twos-end-2 : tie.Need-part-write-twos-end-2 Inv-loop μ-loop
 part-write-twos-end-2 c = search needs
 
 write-twos-requires : tie.Need-write-twos-requires Inv-loop μ-loop
-write-twos-requires c κs = (
-  part-long ((c .before .before .before .before .before .loop) .at) 1 (now
-      ((c .before .before .before .before .before .before .before .before .args) .codes)) (omega arith),
-  begun-room _ _ _ _ _ ((c .before .before .before .before .before .loop) .inv .0) ((c .before .before .before .before .before .before .before .before .pre) .1)
-      ((c .before .before .byte-of) .result .0) ((c .before .before .before .before .before .before .before .before .pre) .0) (omega (
-        arith,
-        (c .before .before .byte-of) .ensures,
-        begun-place _ _ _ _ _ ((c .before .before .before .before .before .loop) .inv .0)
-            ((c .before .before .before .before .before .before .before .before .pre) .1),
-      )),
-)
+write-twos-requires c κs =
+    let s = c .before .before in
+    let l = s .before .before .before in
+    let i = l .before .before .before in (
+      part-long ((l .loop) .at) 1 (now ((i .args) .codes)) (omega arith),
+      begun-room _ _ _ _ _ ((l .loop) .inv .0) ((i .pre) .1) ((s .byte-of) .result .0) ((i .pre) .0) (start s),
+    )
 
 mul-at : tie.Need-mul-at Inv-loop μ-loop
 mul-at c = omega (arith, (c .before .before .write-twos) .ensures .0 .0)
@@ -76,29 +74,40 @@ loop-less : tie.Need-loop-less Inv-loop μ-loop
 loop-less c = search needs
 
 loop-again : tie.Need-loop-again Inv-loop μ-loop
-loop-again c = (
-  begun-block _ _ _ _ _ ((c .before .before .before .before .before .before .before .before .loop) .inv .0)
-      ((c .before .before .before .before .before .before .before .before .before .before .before .pre) .1) ((c .before .before .write-twos) .result)
-      ((c .before .before .before .before .before .byte-of) .result .0) ((c .before .before .write-twos) .last .1 .0) (omega (
-        arith,
-        (c .before .before .before .before .before .byte-of) .ensures,
-        begun-place _ _ _ _ _ ((c .before .before .before .before .before .before .before .before .loop) .inv .0)
-            ((c .before .before .before .before .before .before .before .before .before .before .before .pre) .1),
-      ))
-      ((c .before .before .write-twos) .ensures .0 .0) ((c .before .before .write-twos) .ensures .0 .1)
-      ((c .before .before .write-twos) .ensures .1),
-  omega arith,
-)
+loop-again c =
+    let r = (c .before .before .write-twos) in
+    let s = c .before .before .before .before .before in
+    let l = s .before .before .before in (
+      begun-block _ _ _ _ _ ((l .loop) .inv .0) ((l .before .before .before .pre) .1) (r .result) ((s .byte-of) .result .0) (r .last .1 .0) (start s)
+          (r .ensures .0 .0) (r .ensures .0 .1) (r .ensures .1),
+      omega arith,
+    )
 
-plain-at-requires : tie.Need-plain-at-requires Inv-loop μ-loop
-plain-at-requires c κs = search needs
+sub-next-two-bit : tie.Need-sub-next-two-bit Inv-loop μ-loop
+sub-next-two-bit c = search needs
 
-two-single-requires : tie.Need-two-single-requires Inv-loop μ-loop
-two-single-requires c κs = (omega arith, sym ((c .before .plain-at) .ensures) ∙ (c .if2) .taken)
+part-next-two-bit-start : tie.Need-part-next-two-bit-start Inv-loop μ-loop
+part-next-two-bit-start c = search needs
+
+part-next-two-bit-end : tie.Need-part-next-two-bit-end Inv-loop μ-loop
+part-next-two-bit-end c = search needs
+
+next-two-bit-requires : tie.Need-next-two-bit-requires Inv-loop μ-loop
+next-two-bit-requires c κs = search needs
+
+enum-known-packet : tie.Need-enum-known-packet Inv-loop μ-loop
+enum-known-packet c = search needs
+
+enum-told : tie.Need-enum-told Inv-loop μ-loop
+enum-told c = search needs
+
+five-packet-requires : tie.Need-five-packet-requires Inv-loop μ-loop
+five-packet-requires c κs =
+    let i = c .before .before .before .before .before .before .before .before .before in
+    (omega arith, valid-below 1 (now ((i .args) .codes)) ((i .pre) .0))
 
 put-packet-requires : tie.Need-put-packet-requires Inv-loop μ-loop
-put-packet-requires c κs = begun-place _ _ _ _ _ ((c .before .before .before .before .before .before .loop) .inv .0)
-    ((c .before .before .before .before .before .before .before .before .before .pre) .1)
+put-packet-requires c κs = room (c .before .before .before .before .before .before .before .before)
 
 add-at-2 : tie.Need-add-at-2 Inv-loop μ-loop
 add-at-2 c = search needs
@@ -106,35 +115,27 @@ add-at-2 c = search needs
 add-count-2 : tie.Need-add-count-2 Inv-loop μ-loop
 add-count-2 c = search needs
 
-add-row : tie.Need-add-row Inv-loop μ-loop
-add-row c = search needs
-
 loop-less-2 : tie.Need-loop-less-2 Inv-loop μ-loop
 loop-less-2 c = search needs
 
 loop-again-2 : tie.Need-loop-again-2 Inv-loop μ-loop
-loop-again-2 c = (
-  begun-two _ _ _ _ _ ((c .before .before .before .before .before .before .before .before .before .loop) .inv .0)
-      ((c .before .before .before .before .before .before .before .before .before .before .before .before .pre) .1)
-      ((c .before .before .before .before .two-single) .result) _ ((c .before .before .before .before .two-single) .ensures) (sym
-      ((c .before .before .before .before .before .before .plain-at) .ensures) ∙ (c .before .before .before .before .before .if2) .taken) (omega arith)
-      ((c .before .before .put-packet) .ensures),
-  omega arith,
-)
-
-five-packet-requires : tie.Need-five-packet-requires Inv-loop μ-loop
-five-packet-requires c κs = (
-  omega arith,
-  valid-below 1 (now ((c .before .before .before .before .before .before .before .args) .codes))
-      ((c .before .before .before .before .before .before .before .pre) .0),
-)
+loop-again-2 c =
+    let five = (c .before .before .before .before .five-packet) in
+    let told = c .before .before .before .before .before in
+    let l = told .before .before .before .before .before .before in (
+      begun-five _ _ _ _ _ ((l .loop) .inv .0) ((l .before .before .before .pre) .1) (five .result) _
+          (sym ((told .before .before .next-two-bit) .ensures) ∙ (told .enum-told) .given .1) (five .ensures) (omega arith) ((c .before .before .put-packet) .ensures),
+      omega arith,
+    )
 
 put-packet-requires-2 : tie.Need-put-packet-requires-2 Inv-loop μ-loop
-put-packet-requires-2 c κs = begun-place _ _ _ _ _ ((c .before .before .before .before .before .before .loop) .inv .0)
-    ((c .before .before .before .before .before .before .before .before .before .pre) .1)
+put-packet-requires-2 c κs = room (c .before .before .before .before .before .before .before .before)
 
 add-at-3 : tie.Need-add-at-3 Inv-loop μ-loop
 add-at-3 c = search needs
+
+add-row : tie.Need-add-row Inv-loop μ-loop
+add-row c = search needs
 
 add-count-3 : tie.Need-add-count-3 Inv-loop μ-loop
 add-count-3 c = search needs
@@ -143,14 +144,13 @@ loop-less-3 : tie.Need-loop-less-3 Inv-loop μ-loop
 loop-less-3 c = search needs
 
 loop-again-3 : tie.Need-loop-again-3 Inv-loop μ-loop
-loop-again-3 c = (
-  begun-five _ _ _ _ _ ((c .before .before .before .before .before .before .before .before .before .loop) .inv .0)
-      ((c .before .before .before .before .before .before .before .before .before .before .before .before .pre) .1)
-      ((c .before .before .before .before .five-packet) .result) _ ((c .before .before .before .before .five-packet) .ensures) (sym
-      ((c .before .before .before .before .before .before .plain-at) .ensures) ∙ (c .before .before .before .before .before .if2) .left) (omega arith)
-      ((c .before .before .put-packet2) .ensures),
-  omega arith,
-)
+loop-again-3 c =
+    let told = c .before .before .before .before .before in
+    let l = told .before .before .before .before .before .before in (
+      begun-two _ _ _ _ _ ((l .loop) .inv .0) ((l .before .before .before .pre) .1) ((told .packet) .given .0 .0) _
+          (sym ((told .before .before .next-two-bit) .ensures) ∙ (told .packet) .given .1) (omega arith) ((c .before .before .put-packet2) .ensures),
+      omega arith,
+    )
 
 same-length : tie.Need-same-length Inv-loop μ-loop
 same-length c = (c .before .loop) .inv .0 .2
@@ -179,17 +179,21 @@ write-inner-spec =
     add-count
     loop-less
     loop-again
-    plain-at-requires
-    two-single-requires
+    sub-next-two-bit
+    part-next-two-bit-start
+    part-next-two-bit-end
+    next-two-bit-requires
+    enum-known-packet
+    enum-told
+    five-packet-requires
     put-packet-requires
     add-at-2
     add-count-2
-    add-row
     loop-less-2
     loop-again-2
-    five-packet-requires
     put-packet-requires-2
     add-at-3
+    add-row
     add-count-3
     loop-less-3
     loop-again-3

@@ -37,16 +37,19 @@ same-length c = search needs
 
 returns : tie.Need-returns
 returns c =
-    let a = (c .before .before .before .before .before .before .before .before .before .before .before .before .before .before .before .before .before .args) in
-    (c .before .before .store4) .ensures
+    let fourth = c .before .before in
+    let third = fourth .before .before .before .before in
+    let second = third .before .before .before .before in
+    let first = second .before .before .before .before in
+    let i = first .before .before .before in
+    let a = (i .args) in
+    (fourth .store4) .ensures
     ∙ ap (λ (l : List ℕ). writtenAt (a .at + 12) (littleBytes 4 (a .d)) l)
-    ((c .before .before .before .before .before .before .store3) .ensures
+    ((third .store3) .ensures
     ∙ ap (λ (l : List ℕ). writtenAt (a .at + 8) (littleBytes 4 (a .c)) l)
-    ((c .before .before .before .before .before .before .before .before .before .before .store2) .ensures ∙ ap
-    (λ (l : List ℕ). writtenAt (a .at + 4) (littleBytes 4 (a .b)) l)
-    ((c .before .before .before .before .before .before .before .before .before .before .before .before .before .before .store) .ensures)))
-    ∙ fours-put (a .at) (littleBytes 4 (a .a)) (littleBytes 4 (a .b)) (littleBytes 4 (a .c)) (littleBytes 4 (a .d))
-    (now (a .out)) refl refl refl refl (c .before .before .before .before .before .before .before .before .before .before .before .before .before .before .before .before .before .pre)
+    ((second .store2) .ensures
+    ∙ ap (λ (l : List ℕ). writtenAt (a .at + 4) (littleBytes 4 (a .b)) l) ((first .store) .ensures)))
+    ∙ fours-put (a .at) (littleBytes 4 (a .a)) (littleBytes 4 (a .b)) (littleBytes 4 (a .c)) (littleBytes 4 (a .d)) (now (a .out)) refl refl refl refl (i .pre)
 
 pub put-four-spec : {M : Type 1} → statement M
 put-four-spec =
