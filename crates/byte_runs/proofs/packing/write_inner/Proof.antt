@@ -124,7 +124,8 @@ loop-again-2 c =
     let told = c .before .before .before .before .before in
     let l = told .before .before .before .before .before .before in (
       begun-five _ _ _ _ _ ((l .loop) .inv .0) ((l .before .before .before .pre) .1) (five .result) _
-          (sym ((told .before .before .next-two-bit) .ensures) ∙ (told .enum-told) .given .1) (five .ensures) (omega arith) ((c .before .before .put-packet) .ensures),
+          (sym ((told .before .before .next-two-bit) .ensures) ∙ (told .enum-told) .given .1) (five .ensures) (omega arith)
+          ((c .before .before .put-packet) .ensures),
       omega arith,
     )
 
