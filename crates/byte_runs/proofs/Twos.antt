@@ -17,7 +17,7 @@ use Rattle.laws.proofs.Parts.{part-rest}
 use Rattle.laws.proofs.Places.{every-at, every-all}
 use Rattle.laws.proofs.Tests.{bool-cases, both-pass}
 use Rattle.packets.specs.Packing.{fourFrom, plain, twoBitPart}
-use Rattle.packets.proofs.Bases.{bases-sum}
+use Rattle.packets.proofs.Bases.{quarters, bases-sum}
 use Rattle.packets.proofs.Faults.{or-none}
 use Rattle.packets.proofs.Packing.{plain-long, plain-below, below-plain}
 use Rattle.byte_runs.specs.Packed.{FourBases, moved, plainParts}
@@ -59,14 +59,8 @@ all-alike = refl
 spread-back : (a b c d : ℕ) → a < 4 → b < 4 → c < 4 → d < 4 → spread (a * 64 + b * 16 + c * 4 + d) ≡ a + b * 256 + c * 65536 + d * 16777216
 unfolding spread
 spread-back a b c d ha hb hc hd =
-    let v = a * 64 + b * 16 + c * 4 + d in
-    let e₀ : v / 64 ≡ a = omega arith in
-    let q₁ : v / 16 ≡ a * 4 + b = omega arith in
-    let e₁ : (a * 4 + b) % 4 ≡ b = omega arith in
-    let q₂ : v / 4 ≡ a * 16 + b * 4 + c = omega arith in
-    let e₂ : (a * 16 + b * 4 + c) % 4 ≡ c = omega arith in
-    let e₃ : v % 4 ≡ d = omega arith in
-    rw (e₀, q₁, e₁, q₂, e₂, e₃)
+    let q = quarters a b c d (a * 64 + b * 16 + c * 4 + d) refl ha hb hc hd in
+    rw (q .0, q .1, q .2, q .3)
 
 pub shifted-moved : (n : ℕ) → FourBases n → Pairs n % 65536 * 16 + Pairs n / 65536 ≡ moved n
 unfolding alike

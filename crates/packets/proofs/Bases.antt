@@ -185,19 +185,24 @@ all-gathered : every gathered 256 ≡ true
 unfolding gathered
 all-gathered = refl
 
-gather : (a b c d : ℕ) → a < 4 → b < 4 → c < 4 → d < 4 → (a + b * 256 + c * 65536 + d * 16777216) * 0x40100401 / 16777216 % 256 ≡ a * 64 + b * 16 + c * 4 + d
-unfolding gathered
-gather a b c d ha hb hc hd =
-    let v = a * 64 + b * 16 + c * 4 + d in
-    let e₀ : v / 64 ≡ a = omega arith in
+-- the four digits of a number
+pub quarters : (a b c d v : ℕ) → v ≡ a * 64 + b * 16 + c * 4 + d → a < 4 → b < 4 → c < 4 → d < 4
+    → (v / 64 ≡ a) × (v / 16 % 4 ≡ b) × (v / 4 % 4 ≡ c) × (v % 4 ≡ d)
+quarters a b c d v e ha hb hc hd =
     let q₁ : v / 16 ≡ a * 4 + b = omega arith in
     let e₁ : (a * 4 + b) % 4 ≡ b = omega arith in
     let q₂ : v / 4 ≡ a * 16 + b * 4 + c = omega arith in
     let e₂ : (a * 16 + b * 4 + c) % 4 ≡ c = omega arith in
-    let e₃ : v % 4 ≡ d = omega arith in
+    (omega arith, ap (λ (x : ℕ). x % 4) q₁ ∙ e₁, ap (λ (x : ℕ). x % 4) q₂ ∙ e₂, omega arith)
+
+gather : (a b c d : ℕ) → a < 4 → b < 4 → c < 4 → d < 4 → (a + b * 256 + c * 65536 + d * 16777216) * 0x40100401 / 16777216 % 256 ≡ a * 64 + b * 16 + c * 4 + d
+unfolding gathered
+gather a b c d ha hb hc hd =
+    let v = a * 64 + b * 16 + c * 4 + d in
+    let q = quarters a b c d v refl ha hb hc hd in
     let h : v < 256 = omega arith in
     let t = eqb-true _ v (every-at gathered 256 v h all-gathered) in
-    rw (e₀, q₁, e₁, q₂, e₂, e₃) at t
+    rw (q .0, q .1, q .2, q .3) at t
 
 low-three : (a b c d w : ℕ) → b < 4 → c < 4 → d < 4 → w ≡ a * 64 + b * 16 + c * 4 + d → w % 64 ≡ b * 16 + c * 4 + d
 low-three a b c d w hb hc hd e = omega arith
