@@ -50,7 +50,7 @@ uint32_t c_read_index(const uint8_t *index, size_t len, struct fixed *f)
     if ((refused = text_at(index, len, at, &f->stamp)) != 0)
         return refused;
     at += 4 + (size_t)f->stamp;
-    if (at % 8 != 0)
+    if (at % 4 != 0)
         return 5;
     if ((refused = counts_at(index, len, at, f)) != 0)
         return refused;

@@ -16,7 +16,7 @@ const char *gull_meaning(uint32_t number)
     case GULL_WRONG_VERSION: return "the volume's version is not 4";
     case GULL_WRONG_KIND: return "the volume's type is not 0 or 1, or the alphabet is not 1, 2 or 3";
     case GULL_OUT_OF_RANGE: return "a stated number is outside its range";
-    case GULL_MISALIGNED: return "the timestamp's end is misaligned";
+    case GULL_MISALIGNED: return "the timestamp does not end at a multiple of 4";
     case GULL_LEFTOVER: return "bytes are left over in the index";
     case GULL_BAD_OFFSETS: return "offsets break their rules";
     case GULL_BAD_SEPARATOR: return "a protein separator is not NUL";

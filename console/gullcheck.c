@@ -34,7 +34,7 @@ static const char *const help[] = {
     "  2   the version is not 4: another format, or no index at all. Build it with makeblastdb -blastdb_version 4\n"
     "  3   the type is neither 0 nor 1: the index is damaged. Fetch or build the volume again\n"
     "  4   a number is outside its range: the index is damaged. Fetch or build the volume again\n"
-    "  5   the timestamp's end is misaligned: another tool wrote the index, or it is damaged. Build the volume again\n"
+    "  5   the timestamp does not end at a multiple of 4: another tool wrote the index, or it is damaged. Build the volume again\n"
     "  6   bytes are left over: the index is damaged, or two files were joined. Fetch or build the volume again\n"
     "  7   offsets break their rules: the files are not of one build (one is stale, cut or still being copied), or the index is\n"
     "      damaged. Take the volume out of service and fetch all three files from one build. The hint names the file whose\n"

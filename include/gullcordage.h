@@ -27,9 +27,9 @@ extern "C" {
 
 /* The version of this header and of the library and the programs beside it. */
 #define GULL_VERSION_MAJOR 0
-#define GULL_VERSION_MINOR 1
+#define GULL_VERSION_MINOR 2
 #define GULL_VERSION_PATCH 0
-#define GULL_VERSION "0.1.0"
+#define GULL_VERSION "0.2.0"
 
 /* Answers. */
 enum {
@@ -38,7 +38,7 @@ enum {
     GULL_WRONG_VERSION = 2,     /* the volume's version is not 4 */
     GULL_WRONG_KIND = 3,        /* the volume's type is not 0 or 1, or the alphabet is not 1, 2 or 3 */
     GULL_OUT_OF_RANGE = 4,      /* a stated number is outside its range */
-    GULL_MISALIGNED = 5,        /* the timestamp's end is misaligned */
+    GULL_MISALIGNED = 5,        /* the timestamp does not end at a multiple of 4 from the index's start */
     GULL_LEFTOVER = 6,          /* bytes are left over in the index */
     GULL_BAD_OFFSETS = 7,       /* offsets break their rules */
     GULL_BAD_SEPARATOR = 8,     /* a protein separator is not NUL */

@@ -131,6 +131,43 @@ static void test_volume(const char *folder, const char *name, uint32_t want)
     drop(&few);
 }
 
+static uint32_t be32(const uint8_t *at)
+{
+    return (uint32_t)at[0] << 24 | (uint32_t)at[1] << 16 | (uint32_t)at[2] << 8 | at[3];
+}
+
+/* An index with NULs behind its timestamp, at most 255 bytes together. */
+static struct range padded(const struct range *index, size_t more)
+{
+    size_t field = 12 + be32(index->at + 8), end = field + 4 + be32(index->at + field);
+    struct range r = make(NULL, index->len + more);
+    memcpy(r.at, index->at, end);
+    memset(r.at + end, 0, more);
+    memcpy(r.at + end + more, index->at + end, index->len - end);
+    r.at[field + 3] = (uint8_t)(r.at[field + 3] + more);
+    return r;
+}
+
+/* The timestamp ends at any multiple of 4: nothing else changes there, and every other end is 5. */
+static void test_timestamp(const char *folder)
+{
+    struct range v[3] = {load(folder, "mb_prot.pin"), load(folder, "mb_prot.psq"), load(folder, "mb_prot.phr")};
+    struct range index = v[0], plain = make(NULL, GULL_CHECK_VOLUME_RESULTS);
+    expect(check(v, &plain) == GULL_OK, "mb_prot");
+    for (size_t more = 1; more <= 8; more++) {
+        struct range results = make(NULL, GULL_CHECK_VOLUME_RESULTS);
+        v[0] = padded(&index, more);
+        expect(check(v, &results) == (more % 4 == 0 ? GULL_OK : GULL_MISALIGNED), "a timestamp that ends elsewhere");
+        expect(more % 4 != 0 || memcmp(results.at, plain.at, plain.len) == 0, "the same results");
+        drop(&results);
+        drop(&v[0]);
+    }
+    drop(&index);
+    drop(&v[1]);
+    drop(&v[2]);
+    drop(&plain);
+}
+
 static uint32_t pack(uint32_t alphabet, struct range *codes, struct range *packets, uint64_t place, struct range *results)
 {
     note(codes);
@@ -249,7 +286,8 @@ int main(int argc, char **argv)
     test_volume(volumes, "mb_protidt", 0);
     test_volume(volumes, "re_nuc0", 0);
     test_volume(volumes, "mb_nuc", GULL_BAD_OFFSETS);
-    test_volume(volumes, "re_nuc04", GULL_MISALIGNED);
+    test_volume(volumes, "re_nuc04", 0);
+    test_timestamp(volumes);
     for (uint32_t alphabet = 1; alphabet <= 3; alphabet++)
         for (size_t n = 0; n < 64; n++)
             test_round_trip(alphabet, n);

@@ -33,7 +33,7 @@ pub fn read_index(bytes: &[u8]) -> Answer<Index> {
     ask(kind == 0 || kind == 1, WRONG_TYPE)?;
     let title = fields.text()?;
     let timestamp = fields.text()?;
-    ask((timestamp.start + timestamp.length) % 8 == 0, MISALIGNED)?;
+    ask((timestamp.start + timestamp.length) % 4 == 0, MISALIGNED)?;
     let sequences = fields.four()?;
     ask((0..=MOST_SEQUENCES).contains(&sequences), OUT_OF_RANGE)?;
     let residue_count = little_signed(fields.take(8)?);

@@ -107,10 +107,6 @@ fn every_real_record_is_good() {
     for volume in common::samples().volumes.into_iter().filter(|volume| !volume.lines.is_empty()) {
         for number in 0..volume.lines.len() {
             let answer = label(&volume.index, &volume.header, number as i128);
-            if volume.name == "re_nuc04" {
-                assert_eq!(answer, Err(MISALIGNED));
-                continue;
-            }
             let in_index = matches!(answer.unwrap(), Label::InIndex(_));
             assert_eq!(in_index, volume.name == "fd_titles" && number == 0, "{} {number}", volume.name);
             let index = second::index::read_index(&volume.index).unwrap();

@@ -107,6 +107,23 @@ def tables(index):
     return 32 + title + stamp, struct.unpack_from('>i', index, 16 + title + stamp)[0]
 
 
+def texts(index):
+    """The title and the timestamp of an index."""
+    title = struct.unpack_from('>i', index, 8)[0]
+    return index[12:12 + title], index[16 + title:tables(index)[0] - 16]
+
+
+def with_texts(index, title, stamp):
+    """An index with another title and timestamp: everything behind them moves."""
+    return index[:8] + struct.pack('>i', len(title)) + title + struct.pack('>i', len(stamp)) + stamp + index[tables(index)[0] - 16:]
+
+
+def padded(index, more):
+    """An index with NULs behind its timestamp."""
+    title, stamp = texts(index)
+    return with_texts(index, title, stamp + bytes(more))
+
+
 def command(program, tree, path, *more):
     """The command that builds a program of a tree, with more flags and files."""
     sources = [f'{tree}/console/{part}.c' for part in (*PARTS[program], 'gull', 'text', 'input')]

@@ -19,7 +19,7 @@ def test_samples():
     want('the same by its index', run('gullcheck', f'{v}/mb_prot.pin'), 0, f'{v}/mb_prot.pin: {passed_line("mb_prot")}\n', '')
     want('dna', run('gullcheck', f'{v}/re_nuc0'), 0, f'{v}/re_nuc0.nin: {passed_line("re_nuc0")}\n', '')
     want('--quiet', run('gullcheck', '--quiet', f'{v}/mb_prot', f'{v}/mb_protidt', f'{v}/re_nuc0'), 0, '', '')
-    want('a refusal', run('gullcheck', f'{v}/re_nuc04'), 1, f"{v}/re_nuc04.nin: refused 5: the timestamp's end is misaligned (in the index)\n", '')
+    want('a timestamp that ends at 60', run('gullcheck', f'{v}/re_nuc04'), 0, f'{v}/re_nuc04.nin: {passed_line("re_nuc0")}\n', '')
     want('a file is missing', run('gullcheck', f'{v}/fd_v3'), 2, '', 'fd_v3.nsq: No such file or directory')
     want('an index is missing', run('gullcheck', f'{v}/none.pin'), 2, '', f'gullcheck: {v}/none.pin: No such file or directory\n')
     want('standard input is closed', run('/bin/sh', '-c', f'{os.path.join(BIN, "gullcheck")} {v}/mb_prot <&-'), 0,
@@ -28,11 +28,27 @@ def test_samples():
 
 
 def test_statuses():
-    good, bad, none = (f'{SAMPLES}/{name}' for name in ('mb_prot', 're_nuc04', 'none'))
+    good, bad, none = (f'{SAMPLES}/{name}' for name in ('mb_prot', 'mb_nuc', 'none'))
     for words, status in (((good, good), 0), ((bad, good), 1), ((good, bad), 1), ((none, good), 2), ((good, none), 2), ((none, bad), 2),
                           ((bad, none), 2)):
         for jobs in ('1', '3'):
             want(f'the worst status of {words}', run('gullcheck', '--quiet', '-j', jobs, *words), status)
+
+
+def test_timestamps():
+    """A timestamp may end at any multiple of 4; every other end is 5."""
+    folder, meaning = fresh('stamps'), 'the timestamp does not end at a multiple of 4'
+    for more in range(1, 9):
+        index = copy_volume('mb_prot', f'{folder}/{more}')
+        write(index, padded(read(index), more))
+        what = f'a timestamp with {more} NULs more'
+        if more % 4 == 0:
+            want(what, run('gullcheck', index), 0, f'{index}: {passed_line("mb_prot")}\n', '')
+        else:
+            want(what, run('gullcheck', index), 1, f'{index}: refused 5: {meaning} (in the index)\n', '')
+    done = run('gullcheck', '--json', f'{folder}/2')
+    want('--json of 5', done, 1, told='')
+    count(json_of(done) == [{'volume': f'{folder}/2.pin', 'answer': 5, 'meaning': meaning, 'hint': 'in the index'}], 'its object', done)
 
 
 def test_json():
@@ -42,17 +58,17 @@ def test_json():
     stamp = 'Nov 15, 2026  2:23 PM'
     count(json_of(done) == [{'volume': f'{v}/re_nuc0.nin', 'answer': 0, 'type': 'dna', 'sequences': 23, 'residues': 5796, 'longest': 4298,
                              'title': 'made up nucleotides', 'timestamp': stamp}], 'its object', done)
-    done = run('gullcheck', '--json', f'{v}/re_nuc04')
+    done = run('gullcheck', '--json', f'{v}/mb_nuc')
     want('--json of a refusal', done, 1, told='')
-    count(json_of(done) == [{'volume': f'{v}/re_nuc04.nin', 'answer': 5, 'meaning': "the timestamp's end is misaligned",
-                             'hint': 'in the index'}],
+    count(json_of(done) == [{'volume': f'{v}/mb_nuc.nin', 'answer': 7, 'meaning': 'offsets break their rules',
+                             'hint': 'the sequence file begins with a lead byte, without it the volume would pass'}],
           'its object', done)
     done = run('gullcheck', '--json', f'{v}/fd_v3', f'{v}/none')
     want('--json without an answer', done, 2, told=f'gullcheck: {v}/fd_v3.nin: {v}/fd_v3.nsq: No such file or directory\n')
     count(json_of(done) == [{'volume': f'{v}/fd_v3.nin', 'file': f'{v}/fd_v3.nsq', 'error': 'No such file or directory'},
                             {'volume': f'{v}/none', 'file': f'{v}/none', 'error': 'there is no index, neither .pin nor .nin'}],
                             'its objects', done)
-    done = run('gullcheck', '--json', '--quiet', f'{v}/mb_prot', f'{v}/re_nuc04', f'{v}/none')
+    done = run('gullcheck', '--json', '--quiet', f'{v}/mb_prot', f'{v}/mb_nuc', f'{v}/none')
     want('--json --quiet', done, 2)
     count([sorted(o) for o in json_of(done)] == [['answer', 'hint', 'meaning', 'volume'], ['error', 'file', 'volume']],
           'only what did not pass', done)
@@ -92,7 +108,7 @@ def test_large_title():
 
 def test_names():
     folder = fresh('names')
-    forged = f'x.pin: passed: protein\n{SAMPLES}/re_nuc04.nin: passed'
+    forged = f'x.pin: passed: protein\n{SAMPLES}/mb_nuc.nin: passed'
     for name in ('line\nfeed', 'esc\x1b[2J', 'quo"te', 'back\\slash', 'spa ce', 'co:lon', 'é', b'\xff\xfe', forged.replace('/', '_')):
         base = os.fsencode(folder) + b'/' + os.fsencode(name)
         index = copy_volume('mb_prot', base)
@@ -198,6 +214,10 @@ def test_lead_byte():
     start, n = tables(read(index))
     change(index, start + 4 * n + 8, -2147483648)
     want('a lead byte and a damaged offset', run('gullcheck', index), 1, f'{index}: {rule} ({lead})\n', '')
+    index = copy_volume('mb_nuc', f'{w}/stamp')
+    write(index, padded(read(index), 4))
+    want('a lead byte and a timestamp that ends at 60', run('gullcheck', index), 1,
+         f'{index}: {rule} ({lead}, without it the volume would pass)\n', '')
     index = copy_volume('mb_nuc', f'{w}/count')
     start, n = tables(read(index))
     change(index, start - 4, 4299)
@@ -305,7 +325,6 @@ def test_no_rights():
 
 
 def test_all():
-    for test in (test_samples, test_statuses, test_json, test_titles, test_large_title, test_names, test_plain_names, test_stale_files, test_uncertain,
-                 test_index_hints, test_lead_byte, test_unreadable,
-                 test_no_rights, test_damaged):
+    for test in (test_samples, test_statuses, test_timestamps, test_json, test_titles, test_large_title, test_names, test_plain_names,
+                 test_stale_files, test_uncertain, test_index_hints, test_lead_byte, test_unreadable, test_no_rights, test_damaged):
         test()

@@ -110,7 +110,7 @@ def test_usage():
         count(done.err.endswith(b'] NAME..\ngullcheck --help tells more.\n'), f'{words}: it says where more is told', done)
     want('an option with ESC', run('gullcheck', '-\x1b[2J'), 2, '', r'"-\x1b[2J"')
     want('the option is told, not its value', run('gullcheck', '-j', '0', v), 2, '', 'wrong or incomplete option -j\n')
-    bad = f'{SAMPLES}/re_nuc04'
+    bad = f'{SAMPLES}/mb_nuc'
     first = run('gullcheck', '--json', '--quiet', '-j', '2', v, bad)
     for words in ((v, '--json', bad, '--quiet', '-j', '2'), (v, bad, '-j2', '--quiet', '--json'), (v, '--quiet', '--json', '--', bad)):
         want(f'options behind names {words}', run('gullcheck', *words), 1, first.out, '')
@@ -150,7 +150,7 @@ def test_help():
 def test_full():
     """Output that cannot be written is status 2, whatever was found."""
     v = SAMPLES
-    for words in (('gullcheck', f'{v}/mb_prot'), ('gullcheck', f'{v}/re_nuc04'), ('gullcheck', '--json', f'{v}/re_nuc04'),
+    for words in (('gullcheck', f'{v}/mb_prot'), ('gullcheck', f'{v}/mb_nuc'), ('gullcheck', '--json', f'{v}/mb_nuc'),
                   ('gullcheck', '--json', f'{v}/none'),
                   ('gullcheck', '-j', '3', f'{v}'), ('gullcheck', '--help'), ('gullcheck', '--version'), ('gullpack', 'dna'),
                   ('gullpack', '--help'),

@@ -27,7 +27,7 @@ pub record FieldsHold (index : List ℕ) : Type 0 where
   pub longest : pos 0 ≤ℤ statedLongest index
   -- N is at most 134,217,728
   pub few : statedSequences index ≤ℤ pos mostSequences
-  -- the timestamp ends at a multiple of 8 from the file's start
+  -- the timestamp ends at a multiple of 4 from the file's start
   pub aligned : timestampEnd index % timestampAlignment ≡ 0
   -- two tables for protein, three for DNA, and nothing after them
   pub proteinWhole : statedType index ≡ pos 1 → length index ≡ headerTable index + 2 * tableSize index

@@ -66,7 +66,7 @@ timestampEnd index = timestampStart index + timestampLength index
 
 -- The timestamp ends at a multiple of this, counted from the file's start.
 abbrev pub timestampAlignment : ℕ
-timestampAlignment = 8
+timestampAlignment = 4
 
 -- N, the number of sequences, at most 134,217,728.
 abbrev pub statedSequences : List ℕ → ℤ

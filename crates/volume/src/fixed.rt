@@ -19,7 +19,7 @@ ghost use Rattle.volume.specs.Index.{titleRules, timestampRules, countRu
 const MOST_SEQUENCES: usize = 134217728;
 
 // The timestamp ends at a multiple of this.
-const TIMESTAMP_ALIGNMENT: usize = 8;
+const TIMESTAMP_ALIGNMENT: usize = 4;
 
 // Whether the integer of eight bytes, little-endian, at a place is not negative.
 fn not_negative_wide_at(index: &[u8], at: usize) -> bool

@@ -127,13 +127,23 @@ fn timestamp() -> Vec<Rule<Plan>> {
             .breaks("one byte less", |plan| one_byte_short(plan, TIMESTAMP))
             .breaks("2,147,483,647 stated", |plan| plan.timestamp_length = 2_147_483_647)
             .farther(|plan, rng| cut_by_chance(plan, TIMESTAMP, rng)),
-        rule(MISALIGNED, "the timestamp ends at a multiple of 8")
-            .passes("8 more", |plan: &mut Plan| lengthen_timestamp(plan, 8))
-            .breaks("1 more", |plan| lengthen_timestamp(plan, 1))
-            .breaks("4 more", |plan| lengthen_timestamp(plan, 4))
-            .breaks("7 more", |plan| lengthen_timestamp(plan, 7))
-            .farther(|plan, rng| lengthen_timestamp(plan, rng.between(1, 7))),
+        rule(MISALIGNED, "the timestamp ends at a multiple of 4")
+            .passes("8k", |plan: &mut Plan| end_timestamp_past(plan, 0))
+            .passes("8k + 4", |plan| end_timestamp_past(plan, 4))
+            .breaks("8k + 1", |plan| end_timestamp_past(plan, 1))
+            .breaks("8k + 2", |plan| end_timestamp_past(plan, 2))
+            .breaks("8k + 3", |plan| end_timestamp_past(plan, 3))
+            .breaks("8k + 5", |plan| end_timestamp_past(plan, 5))
+            .breaks("8k + 6", |plan| end_timestamp_past(plan, 6))
+            .breaks("8k + 7", |plan| end_timestamp_past(plan, 7))
+            .farther(|plan, rng| lengthen_timestamp(plan, 4 * rng.below(6) + rng.between(1, 3))),
     ]
+}
+
+/// NULs behind the timestamp, up to an end that is this much past a multiple of 8.
+fn end_timestamp_past(plan: &mut Plan, past: usize) {
+    let end = 16 + plan.title.len() + plan.timestamp.len();
+    lengthen_timestamp(plan, (8 + past - end % 8) % 8);
 }
 
 /// NULs behind the timestamp.

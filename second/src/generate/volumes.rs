@@ -179,13 +179,13 @@ impl Plan {
     }
 }
 
-/// A timestamp that ends at a multiple of 8, with some NULs in it and at its end.
+/// A timestamp that ends at a multiple of 4, with some NULs in it and at its end.
 fn timestamp(title_length: usize, rng: &mut Rng) -> Vec<u8> {
     let mut text: Vec<u8> = (0..rng.below(20)).map(|_| *rng.pick(b"Nov 15, 2026\0")).collect();
     let end = 16 + title_length + text.len();
-    text.resize(text.len() + (8 - end % 8) % 8, 0);
+    text.resize(text.len() + (4 - end % 4) % 4, 0);
     if rng.chance(10) {
-        text.extend([0; 8]);
+        text.extend(vec![0; 4 * rng.between(1, 3)]);
     }
     text
 }
