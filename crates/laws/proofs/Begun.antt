@@ -1,13 +1,13 @@
 -- Lists written in part, with more behind them that is written again later. Assumes nothing.
 use mathlib.Core.Path.{_≡_, refl, sym, ap, _∙_}
 use mathlib.Core.List.{List, [], _++_, append-assoc, append-nil}
-use Prim.Native.Nat.{ℕ, _+_, _-_, _≤_}
+use Prim.Native.Nat.{ℕ, _+_, _≤_}
 use native.Mathlib.Nat.{add-assoc, add-zero}
 use native.Mathlib.Omega.{arith}
 use lib.ListN.{length, take, drop, length-append, length-take, take-append-drop}
-use lib.Seq.{length-take-le, take-at, drop-at, take-add, drop-drop, take-append-le}
+use lib.Seq.{length-take-le, take-at, drop-at, take-add, take-append-le}
 use Rattle.laws.specs.Writing.{writtenAt, Begun}
-use Rattle.laws.proofs.Writing.{length-written}
+use Rattle.laws.proofs.Writing.{length-written, drop-later}
 
 module _ {ℓ} {A : Type ℓ} where
   -- nothing is written yet
@@ -26,7 +26,6 @@ module _ {ℓ} {A : Type ℓ} where
       let n : length ys ≤ length zs = omega (arith, ap length e, length-take (length ys) zs) in
       let w : writtenAt place zs d ≡ take place d ++ (zs ++ drop (place + length zs) d) = append-assoc (take place d) zs (drop (place + length zs) d) in
       let f : length (take place d ++ zs) ≡ place + length zs = length-append (take place d) zs ∙ omega arith in
-      let m : place + length zs + (end - (place + length zs)) ≡ end = omega arith in
       record {
         size = length-written place zs d r;
         front = ap (take (place + length ys)) w
@@ -34,26 +33,13 @@ module _ {ℓ} {A : Type ℓ} where
             ∙ ap (λ (l : List A). l ++ take (length ys) (drop place (take place d ++ (zs ++ drop (place + length zs) d)))) (take-at (take place d) _ place t)
             ∙ ap (λ (l : List A). take place d ++ take (length ys) l) (drop-at (take place d) (zs ++ drop (place + length zs) d) place t)
             ∙ ap (λ (l : List A). take place d ++ l) (take-append-le (length ys) zs (drop (place + length zs) d) n ∙ e);
-        behind = ap (λ (k : ℕ). drop k (writtenAt place zs d)) (sym m)
-            ∙ sym (drop-drop (end - (place + length zs)) (place + length zs) (writtenAt place zs d))
-            ∙ ap (drop (end - (place + length zs))) (drop-at (take place d ++ zs) (drop (place + length zs) d) (place + length zs) f)
-            ∙ drop-drop (end - (place + length zs)) (place + length zs) d
-            ∙ ap (λ (k : ℕ). drop k d) m;
+        behind = drop-later (place + length zs) end (writtenAt place zs d) d h
+            (drop-at (take place d ++ zs) (drop (place + length zs) d) (place + length zs) f);
       }
 
   -- the end may lie further on
   pub begun-wider : (place end more : ℕ) (xs d o : List A) → end ≤ more → Begun place xs end d o → Begun place xs more d o
-  begun-wider place end more xs d o h b =
-      let m : end + (more - end) ≡ more = omega arith in
-      record {
-        size = b .size;
-        front = b .front;
-        behind = ap (λ (k : ℕ). drop k o) (sym m)
-            ∙ sym (drop-drop (more - end) end o)
-            ∙ ap (drop (more - end)) (b .behind)
-            ∙ drop-drop (more - end) end d
-            ∙ ap (λ (k : ℕ). drop k d) m;
-      }
+  begun-wider place end more xs d o h b = record { size = b .size; front = b .front; behind = drop-later end more o d h (b .behind) }
 
   -- one list behind another
   pub begun-join : (place end : ℕ) (xs ys d m o : List A) → Begun place xs end d m → Begun (place + length xs) ys end m o → Begun place (xs ++ ys) end d o

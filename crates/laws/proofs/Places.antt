@@ -53,6 +53,12 @@ module _ (f : ℕ → ℕ) where
   pub sum-more : (i x : ℕ) → x ≡ f i → sumTo f i + x ≡ sumTo f (i + 1)
   sum-more i x e = rw add-one (ap (λ (y : ℕ). sumTo f i + y) e)
 
+  -- sums never fall
+  pub sum-rises : (k n : ℕ) → k ≤ n → sumTo f k ≤ sumTo f n
+  sum-rises k zero h = let e : k ≡ 0 = omega arith in rw e (omega arith)
+  sum-rises k (suc n) h =
+      ⊎-elim (λ i. rw i (omega arith)) (λ l. let r : sumTo f k ≤ sumTo f n = sum-rises k n (omega arith) in omega arith) (eq-or-lt-of-le h)
+
   pub largest-more : (i x y : ℕ) → x ≡ largestTo f i → y ≡ f i → max x y ≡ largestTo f (i + 1)
   largest-more i x y e g = rw (add-one, e, g)
 

@@ -6,7 +6,7 @@ use native.Mathlib.Nat.{add-assoc, zero-add}
 use native.Mathlib.Numerals.{add-one}
 use native.Mathlib.Omega.{arith}
 use lib.ListN.{length, take, drop, getD, set, length-append, length-take, List·getD-append}
-use lib.Seq.{set-at, take-append-le, drop-append-le, paste-zero, getD-append-add, getD-take, getD-drop}
+use lib.Seq.{set-at, take-append-le, drop-append-le, drop-drop, paste-zero, getD-append-add, getD-take, getD-drop}
 use Rattle.laws.specs.Places.{listTo}
 use Rattle.laws.specs.Writing.{writtenAt}
 use Rattle.laws.proofs.Places.{length-listTo}
@@ -48,6 +48,12 @@ written-append p new a b h =
 -- a list written at the start
 pub written-start : (new old : List ℕ) → writtenAt 0 new old ≡ new ++ drop (length new) old
 written-start new old = rw zero-add
+
+-- a list written at the start of what is behind a place
+pub written-behind : (place : ℕ) (new old : List ℕ) → take place old ++ writtenAt 0 new (drop place old) ≡ writtenAt place new old
+written-behind place new old =
+    ap (λ (l : List ℕ). take place old ++ l) (written-start new (drop place old) ∙ ap (λ (l : List ℕ). new ++ l) (drop-drop (length new) place old))
+    ∙ sym (append-assoc (take place old) new (drop (place + length new) old))
 
 -- ---- a list written into another, by place
 

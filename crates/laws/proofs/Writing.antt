@@ -19,6 +19,16 @@ module _ {ℓ} {A : Type ℓ} where
   pub length-written : (place : ℕ) (new old : List A) → place + length new ≤ length old → length (writtenAt place new old) ≡ length old
   length-written place new old h = simp (length-append, length-take, length-drop) (omega arith)
 
+  -- lists that are alike from a place on are so from a later one on
+  pub drop-later : (a b : ℕ) (xs ys : List A) → a ≤ b → drop a xs ≡ drop a ys → drop b xs ≡ drop b ys
+  drop-later a b xs ys h e =
+      let m : a + (b - a) ≡ b = omega arith in
+      ap (λ (k : ℕ). drop k xs) (sym m)
+      ∙ sym (drop-drop (b - a) a xs)
+      ∙ ap (drop (b - a)) e
+      ∙ drop-drop (b - a) a ys
+      ∙ ap (λ (k : ℕ). drop k ys) m
+
   -- a part of S written after the part before it
   pub paste-part : (d : List A) (at : ℕ) (S : List A) (n : ℕ) (xs rest : List A) → at ≤ length d → n ≤ length S → drop n S ≡ xs ++ rest
       → paste (paste d at S n) (at + n) xs (length xs) ≡ paste d at S (n + length xs)
@@ -60,17 +70,13 @@ module _ {ℓ} {A : Type ℓ} where
   written-again place ys zs old h l =
       let t : length (take place old) ≡ place = rw length-take (omega arith) in
       let f : length (take place old ++ zs) ≡ place + length zs = simp (length-append, length-take) (omega arith) in
-      let m : place + length zs + (length ys - length zs) ≡ place + length ys = omega arith in
       let e : writtenAt place zs old ≡ take place old ++ (zs ++ drop (place + length zs) old) = append-assoc (take place old) zs
       (drop (place + length zs) old) in
       let a : take place (writtenAt place zs old) ≡ take place old =
       ap (λ (l : List A). take place l) e ∙ take-at (take place old) (zs ++ drop (place + length zs) old) place t in
       let b : drop (place + length ys) (writtenAt place zs old) ≡ drop (place + length ys) old =
-      ap (λ (n : ℕ). drop n (writtenAt place zs old)) (sym m)
-      ∙ sym (drop-drop (length ys - length zs) (place + length zs) (writtenAt place zs old))
-      ∙ ap (λ (l : List A). drop (length ys - length zs) l) (drop-at (take place old ++ zs) (drop (place + length zs) old) (place + length zs) f)
-      ∙ drop-drop (length ys - length zs) (place + length zs) old
-      ∙ ap (λ (n : ℕ). drop n old) m in
+      drop-later (place + length zs) (place + length ys) (writtenAt place zs old) old (omega arith)
+      (drop-at (take place old ++ zs) (drop (place + length zs) old) (place + length zs) f) in
       rw (a, b)
 
   -- a list written over the end of another, from its element i on

@@ -6,5 +6,6 @@ pub mod Ranges
 pub mod Corrected
 pub mod Answers
 pub mod Exact
+pub mod Decoded
 pub mod Passed
 pub mod Checked
