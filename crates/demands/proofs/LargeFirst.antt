@@ -17,6 +17,7 @@ use Rattle.byte_runs.specs.Bytes.{packBytesAnswer, unpackBytesAnswer}
 use Rattle.volume.specs.Index.{indexAnswer, indexNumber}
 use Rattle.volume.specs.Volume.{volumeRules, volumeAnswer, volumeNumber}
 use Rattle.sequence.specs.Sequence.{decodeRules, decodeAnswer, decodeNumber}
+use Rattle.pages.specs.Page.{Outcome, pageOf, pageAnswer, pageNumber}
 use Rattle.listing.specs.Listing.{mostListed, listedAnswer}
 use Rattle.dsqdata.specs.Check.{sizeRules, fileRules, setRules, setCheck, setNumber}
 use Rattle.dsqdata.specs.Lookup.{lookupRules, lookupOf, lookupNumber}
@@ -71,7 +72,7 @@ module _ (alphabet : ℕ) where
 
 -- the first, second or third of three tests with one refusal fails
 module _ {A : Type 0} (refused : A) where
-  always : (b : Bool) → cond b refused refused ≡ refused
+  pub always : (b : Bool) → cond b refused refused ≡ refused
   always true = refl
   always false = refl
 
@@ -116,6 +117,11 @@ pub decode-large : (index sequence : List ℕ) (number room : ℕ) → SomeLarge
     (decodeAnswer index sequence number room) ≡ 22
 unfolding decodeAnswer decodeRules
 decode-large index sequence number room h = ap decodeNumber (two _ sequence index _ (exchanged index sequence h))
+
+pub fetch-page-large : (index sequence numbers output ends : List ℕ) → SomeLarge (index ∷ sequence ∷ []) → pageNumber
+    (pageAnswer index sequence numbers output ends) ≡ 22
+unfolding pageOf
+fetch-page-large index sequence numbers output ends h = ap (λ (x : Outcome). pageNumber (x .answer)) (two _ index sequence _ h)
 
 module _ (index metadata sequence : List ℕ) (h : SomeLarge (index ∷ metadata ∷ sequence ∷ [])) where
   pub check-set-large : setNumber (setCheck index metadata sequence) ≡ 22

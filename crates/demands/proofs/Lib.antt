@@ -10,3 +10,4 @@ pub mod Given
 pub mod Demand2
 pub mod Demand2Reads
 pub mod Refusals
+pub mod Pages

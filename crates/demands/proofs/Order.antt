@@ -90,7 +90,7 @@ module _ {A : Type 0} (told : Refusal → A) (number : A → ℕ) (own : (r : Re
   number-verdict : (rules : List (Rule Refusal)) → number (verdict told fine rules) ≡ verdict numberOf 0 rules
   number-verdict rules = verdict-handed told numberOf number own fine rules ∙ ap (λ (n : ℕ). verdict numberOf n rules) success
 
-  ordered : (rules : List (Rule Refusal)) (answer : A) → answer ≡ verdict told fine rules → Ordered told number rules answer
+  pub ordered : (rules : List (Rule Refusal)) (answer : A) → answer ≡ verdict told fine rules → Ordered told number rules answer
   ordered rules answer e =
       let n : number answer ≡ verdict numberOf 0 rules = ap number e ∙ number-verdict rules in
       let cause = verdict-refuses told fine apart same rules in

@@ -17,6 +17,7 @@ use Rattle.byte_runs.specs.Bytes.{unpackBytesRules}
 use Rattle.volume.specs.Index.{isProtein, indexRules, readRules}
 use Rattle.volume.specs.Volume.{volumeRules}
 use Rattle.sequence.specs.Sequence.{decodeRules}
+use Rattle.pages.specs.Page.{pageRules}
 use Rattle.listing.specs.Listing.{listingSizeRules}
 use Rattle.dsqdata.specs.Header.{countOf}
 use Rattle.dsqdata.specs.Check.{rulesTo, sizeRules, startRules, tagRules, fileRules, headerRules, countRules}
@@ -103,6 +104,10 @@ module _ (index sequence : List ℕ) (number room : ℕ) where
       → numbersOf (decodeRules index sequence number room) ≡ 22 ∷ 22 ∷ (indexNumbers ++ (10 ∷ 7 ∷ 7 ∷ 7 ∷ 7 ∷ 12 ∷ 12 ∷ 13 ∷ []))
   unfolding decodeRules indexRules
   dna-decode-numbers t = rw t
+
+-- a page: both files, then its list of ends; then the numbers of each item's own list
+pub fetch-page-numbers : (index sequence numbers ends : List ℕ) → numbersOf (pageRules index sequence numbers ends) ≡ 22 ∷ 22 ∷ 13 ∷ []
+fetch-page-numbers index sequence numbers ends = refl
 
 -- ---- sets
 

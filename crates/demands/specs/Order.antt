@@ -3,10 +3,10 @@
 use mathlib.Core.Path.{_≡_}
 use mathlib.Core.Logic.{_↔_}
 use mathlib.Core.List.{List, [], _∷_, _++_}
-use Prim.Native.Nat.{ℕ, _+_}
+use Prim.Native.Nat.{ℕ, _+_, _-_}
 use lib.Dec.{ltb}
 use lib.IntN.{ℤ}
-use lib.ListN.{length, take}
+use lib.ListN.{length, getD, take}
 use Rattle.laws.specs.Rules.{Rule, ask, AllHold, FirstBroken}
 use Rattle.laws.specs.Signed.{toNat}
 use Rattle.answers.specs.Limits.{bytesFit}
@@ -15,6 +15,10 @@ use Rattle.answers.specs.declared.Refusal.{Refusal}
 use Rattle.answers.specs.declared.Refusal.the-variants.{TooLarge, NoSuchSequence}
 use Rattle.volume.specs.Index.{sequences, headerTable, readRules}
 use Rattle.volume.specs.Tables.{offsetAt}
+use Rattle.sequence.specs.Sequence.{decodeRules}
+use Rattle.pages.specs.Page.{pageRules}
+use Rattle.pages.specs.Holds.{filledBy}
+use Rattle.dsqdata.specs.Check.{rulesTo}
 use Rattle.headers.specs.Record.{elementRules, recordRules}
 use Rattle.deflines.specs.Fields.{titlesOf, identifiersOf}
 use Rattle.labels.specs.Label.{ownRules}
@@ -77,3 +81,13 @@ abbrev pub labelRules : List ℕ → List ℕ → ℕ → List (Rule Refusal)
 labelRules index header number =
     labelOffsetRules index header number
     ++ elementRules (take (toNat (highOffset index number)) header) (toNat (lowOffset index number))
+
+-- A page: 22 for either file; 13 for the list of ends; then, item by item, the rules of a single fetch into what is left of the output behind the
+-- items before it.
+abbrev pub pageItemRules : List ℕ → List ℕ → List ℕ → List ℕ → ℕ → List (Rule Refusal)
+pageItemRules index sequence numbers output k =
+    decodeRules index sequence (getD numbers k 0) (length output - filledBy index sequence numbers k)
+
+abbrev pub wholePageRules : List ℕ → List ℕ → List ℕ → List ℕ → List ℕ → List (Rule Refusal)
+wholePageRules index sequence numbers output ends =
+    pageRules index sequence numbers ends ++ rulesTo (pageItemRules index sequence numbers output) (length numbers)
