@@ -8,9 +8,11 @@ pub enum Kind {
     Output,
     PacketRange,
     PacketOutput,
+    NumberList,
+    NumberOutput,
 }
 
-/// An argument: an output is its length and the byte (or packet) it is filled with.
+/// An argument: an output is its length and the byte (or packet, or number) it is filled with.
 #[derive(Clone, Debug, PartialEq, Eq)]
 pub enum Argument {
     Number(u64),
@@ -18,6 +20,8 @@ pub enum Argument {
     Output(usize, u8),
     PacketRange(Vec<u32>),
     PacketOutput(usize, u32),
+    NumberList(Vec<u64>),
+    NumberOutput(usize, u64),
 }
 
 /// A call byte with its arguments in order.
@@ -27,9 +31,11 @@ pub struct Call {
     pub arguments: Vec<Argument>,
 }
 
-/// The longest range or output, in bytes, and the longest packet range or output, in packets.
+/// The longest range or output, in bytes, the longest packet range or output, in packets, and the longest number list or
+/// output, in numbers.
 pub const MOST_RANGE: usize = 16_384;
 pub const MOST_RUN: usize = 4_096;
+pub const MOST_NUMBERS: usize = 2_048;
 
 pub const VOLUME_CHECK: u8 = 1;
 pub const DECODE: u8 = 2;
@@ -43,6 +49,7 @@ pub const LABEL: u8 = 9;
 pub const CONSOLE_VOLUME_CHECK: u8 = 10;
 pub const CONSOLE_PACK: u8 = 11;
 pub const CONSOLE_UNPACK: u8 = 12;
+pub const PAGE: u8 = 13;
 
 /// How a call's 22 is shown to come: ranges in the protocol are too small for it.
 #[derive(Clone, Copy, Debug, PartialEq, Eq)]
@@ -62,7 +69,8 @@ impl Large {
     }
 }
 
-/// The calls by byte: name, arguments in order, the numbers that document 01 lets the call give, and how 22 is shown.
+/// The calls by byte: name, arguments in order, the numbers that document 01 or a request lets the call give, and how 22
+/// is shown.
 pub struct Signature {
     pub byte: u8,
     pub name: &'static str,
@@ -71,9 +79,9 @@ pub struct Signature {
     pub large: Large,
 }
 
-use Kind::{Number, Output, PacketOutput, PacketRange, Range};
+use Kind::{Number, NumberList, NumberOutput, Output, PacketOutput, PacketRange, Range};
 
-pub const SIGNATURES: [Signature; 12] = [
+pub const SIGNATURES: [Signature; 13] = [
     Signature {
         byte: VOLUME_CHECK,
         name: "volume check",
@@ -160,6 +168,13 @@ pub const SIGNATURES: [Signature; 12] = [
         numbers: &[0, 1, 3, 13, 17, 22],
         large: Large::CFunction,
     },
+    Signature {
+        byte: PAGE,
+        name: "page",
+        kinds: &[Range, Range, NumberList, Output, NumberOutput],
+        numbers: &[0, 1, 2, 3, 4, 5, 6, 7, 8, 10, 11, 12, 13, 22],
+        large: Large::Timing,
+    },
 ];
 
 /// The signature of a call byte.
@@ -208,6 +223,20 @@ impl Call {
         }
     }
 
+    pub fn numbers(&self, k: usize) -> &[u64] {
+        match &self.arguments[k] {
+            Argument::NumberList(numbers) => numbers,
+            other => panic!("argument {k} is {other:?}, not a number list"),
+        }
+    }
+
+    pub fn number_output(&self, k: usize) -> Vec<u64> {
+        match &self.arguments[k] {
+            Argument::NumberOutput(count, fill) => vec![*fill; *count],
+            other => panic!("argument {k} is {other:?}, not a number output"),
+        }
+    }
+
     /// Whether the protocol takes every argument.
     pub fn fits_protocol(&self) -> bool {
         self.arguments.iter().all(|argument| match argument {
@@ -216,6 +245,8 @@ impl Call {
             Argument::Output(length, _) => *length <= MOST_RANGE,
             Argument::PacketRange(packets) => packets.len() <= MOST_RUN,
             Argument::PacketOutput(count, _) => *count <= MOST_RUN,
+            Argument::NumberList(numbers) => numbers.len() <= MOST_NUMBERS,
+            Argument::NumberOutput(count, _) => *count <= MOST_NUMBERS,
         })
     }
 }

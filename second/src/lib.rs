@@ -1,5 +1,5 @@
-//! An independent second reading of document 01: every call of the library, written from the documents alone,
-//! the cases it is compared on, and the protocol they travel in.
+//! An independent second reading of document 01 and of the requests that have landed: every call of the library, written
+//! from the documents alone, the cases it is compared on, and the protocol they travel in.
 
 pub mod answers;
 pub mod call;
@@ -19,6 +19,7 @@ pub mod metadata;
 pub mod options;
 pub mod outcome;
 pub mod packets;
+pub mod page;
 pub mod records;
 pub mod residues;
 pub mod runs;

@@ -6,10 +6,11 @@ use crate::console::{console_check_volume, console_pack, console_unpack};
 use crate::dsqdata::check_set;
 use crate::headers::{Identifier, ObjectId, GI, LOCAL};
 use crate::lookup::lookup;
+use crate::page::fetch_page;
 use crate::records::{identifier, label, label_bytes, walker_step};
 use crate::runs::{pack, unpack, RunSize};
 use crate::sequence::decode;
-use crate::stream::{hex, packet_hex};
+use crate::stream::{hex, number_hex, packet_hex};
 use crate::volume::check_volume;
 
 /// The answer number, the results on success, and every output after the call.
@@ -27,6 +28,7 @@ pub fn line_of(call: &Call) -> String {
         CONSOLE_VOLUME_CHECK => console_volume_check_line(call),
         CONSOLE_PACK => console_pack_line(call),
         CONSOLE_UNPACK => console_unpack_line(call),
+        PAGE => page_line(call),
         other => panic!("no line for call {other}"),
     }
 }
@@ -34,6 +36,11 @@ pub fn line_of(call: &Call) -> String {
 /// The answer number that a line begins with.
 pub fn number_of(line: &str) -> Option<u32> {
     line.split(' ').next()?.parse().ok()
+}
+
+/// How many items a page's line says were done: its second field.
+pub fn done_of(line: &str) -> Option<usize> {
+    line.split(' ').nth(1)?.parse().ok()
 }
 
 /// Fields by one space: the number, the results where there are any, the outputs.
@@ -133,4 +140,12 @@ fn console_unpack_line(call: &Call) -> String {
     let mut results = call.output(3);
     let answer = console_unpack(call.number(0), call.range(1), &mut output, &mut results);
     join(answer.map(|()| vec![]), &[hex(&output), hex(&results)])
+}
+
+/// How many were done stands right behind the number, on a refusal too.
+fn page_line(call: &Call) -> String {
+    let mut output = call.output(3);
+    let mut ends = call.number_output(4);
+    let page = fetch_page(call.range(0), call.range(1), call.numbers(2), &mut output, &mut ends);
+    join(page.answer.map(|()| vec![]), &[page.done.to_string(), hex(&output), number_hex(&ends)])
 }

@@ -33,12 +33,16 @@ impl Outcome {
         self.cases += 1;
         let number = number_of(expected).expect("our lines begin with a number");
         *self.reached.entry(number).or_insert(0) += 1;
-        let is_hit = case.aim.is_none_or(|aim| aim == number);
+        let is_hit = case.is_hit_by(expected);
         if found == expected && is_hit {
             self.shown.extend(case.shows.clone());
             return;
         }
-        let expected = if is_hit { expected.to_string() } else { format!("{:?} was aimed at", case.aim) };
+        let expected = if is_hit {
+            expected.to_string()
+        } else {
+            format!("{:?} was aimed at, and {:?} done", case.aim, case.done)
+        };
         self.differences.push(Difference { case: case.clone(), expected, found });
     }
 

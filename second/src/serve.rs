@@ -31,6 +31,11 @@ impl Reader<'_> {
         Ok(u32::from_le_bytes([bytes[0], bytes[1], bytes[2], bytes[3]]))
     }
 
+    fn eight(&mut self) -> Result<u64, Stop> {
+        let low = self.four()? as u64;
+        Ok(low + ((self.four()? as u64) << 32))
+    }
+
     fn length(&mut self, most: usize) -> Result<usize, Stop> {
         let length = self.four()? as usize;
         if length > most {
@@ -41,10 +46,7 @@ impl Reader<'_> {
 
     fn argument(&mut self, kind: Kind) -> Result<Argument, Stop> {
         Ok(match kind {
-            Kind::Number => {
-                let low = self.four()? as u64;
-                Argument::Number(low + ((self.four()? as u64) << 32))
-            }
+            Kind::Number => Argument::Number(self.eight()?),
             Kind::Range => {
                 let length = self.length(MOST_RANGE)?;
                 Argument::Range(self.take(length)?.to_vec())
@@ -55,6 +57,11 @@ impl Reader<'_> {
                 Argument::PacketRange((0..count).map(|_| self.four()).collect::<Result<_, _>>()?)
             }
             Kind::PacketOutput => Argument::PacketOutput(self.length(MOST_RUN)?, self.four()?),
+            Kind::NumberList => {
+                let count = self.length(MOST_NUMBERS)?;
+                Argument::NumberList((0..count).map(|_| self.eight()).collect::<Result<_, _>>()?)
+            }
+            Kind::NumberOutput => Argument::NumberOutput(self.length(MOST_NUMBERS)?, self.eight()?),
         })
     }
 

@@ -32,6 +32,16 @@ fn write_argument(bytes: &mut Vec<u8>, argument: &Argument) {
             bytes.extend((*count as u32).to_le_bytes());
             bytes.extend(fill.to_le_bytes());
         }
+        Argument::NumberList(numbers) => {
+            bytes.extend((numbers.len() as u32).to_le_bytes());
+            for number in numbers {
+                bytes.extend(number.to_le_bytes());
+            }
+        }
+        Argument::NumberOutput(count, fill) => {
+            bytes.extend((*count as u32).to_le_bytes());
+            bytes.extend(fill.to_le_bytes());
+        }
     }
 }
 
@@ -51,6 +61,14 @@ pub fn packet_hex(packets: &[u32]) -> String {
     packets.iter().map(|packet| format!("{packet:08x}")).collect()
 }
 
+/// Numbers in hex, sixteen digits each, `-` where there is none.
+pub fn number_hex(numbers: &[u64]) -> String {
+    if numbers.is_empty() {
+        return "-".to_string();
+    }
+    numbers.iter().map(|number| format!("{number:016x}")).collect()
+}
+
 /// An argument for people, in hex.
 pub fn describe(argument: &Argument) -> String {
     match argument {
@@ -61,5 +79,9 @@ pub fn describe(argument: &Argument) -> String {
             format!("packet range of {}: {}", packets.len(), packet_hex(packets))
         }
         Argument::PacketOutput(count, fill) => format!("packet output of {count}, filled with {fill:08x}"),
+        Argument::NumberList(numbers) => {
+            format!("number list of {}: {}", numbers.len(), number_hex(numbers))
+        }
+        Argument::NumberOutput(count, fill) => format!("number output of {count}, filled with {fill:016x}"),
     }
 }

@@ -4,7 +4,7 @@
 mod common;
 
 use second::answers::{NO_ROOM, WRONG_TYPE};
-use second::call::PACK;
+use second::call::{PACK, PAGE};
 use second::comparison::{compare, knows};
 use second::generate::order::Shows;
 use second::generate::{cases, Case};
@@ -92,6 +92,18 @@ fn it_says_when_a_case_misses_its_aim() {
     let line = line_of(&case.call);
     outcome.count(&case, &line, line.clone());
     assert_eq!((outcome.differences.len(), outcome.shown.len()), (1, 0));
+}
+
+#[test]
+fn it_says_when_a_page_has_another_count_done() {
+    let mut case = cases(PAGE, 1, 0, &common::samples()).find(|case| case.done == Some(2)).unwrap();
+    let line = line_of(&case.call);
+    for (done, wrong) in [(2, 0), (1, 1), (3, 1)] {
+        case.done = Some(done);
+        let mut outcome = Outcome::default();
+        outcome.count(&case, &line, line.clone());
+        assert_eq!(outcome.differences.len(), wrong, "{done}");
+    }
 }
 
 #[test]

@@ -1,10 +1,11 @@
-//! The generators do what they say: every aimed case gives its number, every number is reached, every case goes
-//! through the protocol, and our own answers agree through it.
+//! The generators do what they say: every aimed case gives its number and has as many items done, every number is reached,
+//! every case goes through the protocol, and our own answers agree through it.
 
 mod common;
 
+use second::call::PAGE;
 use second::generate::{cases, GENERATED};
-use second::line::{line_of, number_of};
+use second::line::{done_of, line_of};
 use second::outcome::Outcome;
 use second::serve::lines_of;
 use second::stream::stream_of;
@@ -14,14 +15,24 @@ fn every_aimed_case_gives_its_number() {
     let samples = common::samples();
     for byte in GENERATED {
         for case in cases(byte, 5, 3000, &samples) {
-            let number = number_of(&line_of(&case.call)).unwrap();
-            assert!(
-                case.aim.is_none_or(|aim| aim == number),
-                "call {byte}, {}: {number}, {:?}",
-                case.note,
-                case
-            );
+            let line = line_of(&case.call);
+            assert!(case.is_hit_by(&line), "call {byte}, {}: {line}, {:?}", case.note, case);
         }
+    }
+}
+
+#[test]
+fn every_aimed_page_says_how_many_are_done() {
+    let samples = common::samples();
+    let aimed: Vec<_> = cases(PAGE, 5, 3000, &samples).filter(|case| case.aim.is_some()).collect();
+    assert!(aimed.iter().all(|case| case.done.is_some()));
+    // Each refusal of an item comes behind none, behind some, and with none left behind it.
+    for number in [7, 8, 10, 11, 12, 13] {
+        let refused = || aimed.iter().filter(|case| case.aim == Some(number));
+        let done = |case: &second::generate::Case| done_of(&line_of(&case.call)).unwrap();
+        assert!(refused().any(|case| done(case) == 0), "{number}");
+        assert!(refused().any(|case| (1..case.call.numbers(2).len() - 1).contains(&done(case))), "{number}");
+        assert!(refused().any(|case| done(case) > 0 && done(case) == case.call.numbers(2).len() - 1));
     }
 }
 

@@ -1,5 +1,5 @@
 //! The tables of rules: LIMITS.md shows all of them, each rule has values on both sides, and the numbers come in document
-//! 01's order. The orders are written out here once more, from the document.
+//! 01's order. The orders are written out here once more, from the document and the requests.
 
 use second::call::*;
 use second::generate::order::Order;
@@ -29,6 +29,12 @@ fn document(byte: u8, title: &str) -> Vec<u32> {
         (CONSOLE_VOLUME_CHECK, title) => [document(VOLUME_CHECK, title), vec![13]].concat(),
         (DECODE, "DNA") => index(&[10, 7, 12, 13]),
         (DECODE, "protein") => index(&[10, 7, 8, 11, 13]),
+        (PAGE, "DNA, the first item" | "DNA, an item between" | "DNA, the last item") => {
+            [vec![13], index(&[10, 7, 12, 13])].concat()
+        }
+        (PAGE, "protein, the first item" | "protein, an item between" | "protein, the last item") => {
+            [vec![13], index(&[10, 7, 8, 11, 13])].concat()
+        }
         (PACK | CONSOLE_PACK, _) => vec![3, 18, 13],
         (UNPACK, _) => vec![3, 17, 13],
         (CONSOLE_UNPACK, _) => vec![1, 3, 17, 13],

@@ -1,10 +1,12 @@
 // The stream of cases on standard input: numbers, ranges and outputs, as the protocol has them.
 ghost use Prim.Native.Nat.{_≤_};
 
-// The most bytes of a range and the most packets of a packet range.
+// The most bytes of a range, the most packets of a packet range and the most numbers of a list of numbers.
 const MOST_BYTES: u64 = 16384;
 
 const MOST_PACKETS: u64 = 4096;
+
+const MOST_NUMBERS: u64 = 2048;
 
 // Whether the run goes on, or why it ends: the stream ends inside a case, a range is too long, or a byte names no call.
 pub enum Stream {
@@ -53,6 +55,22 @@ pub fn packets_part(s: &[u32], n: u64) -> &[u32] {
 }
 
 pub fn packets_part_mut(s: &mut [u32], n: u64) -> &mut [u32] {
+    let end = n as usize;
+    if s.len() < end {
+        return s;
+    }
+    &mut s[..end]
+}
+
+pub fn numbers_part(s: &[u64], n: u64) -> &[u64] {
+    let end = n as usize;
+    if s.len() < end {
+        return s;
+    }
+    &s[..end]
+}
+
+pub fn numbers_part_mut(s: &mut [u64], n: u64) -> &mut [u64] {
     let end = n as usize;
     if s.len() < end {
         return s;
@@ -137,6 +155,14 @@ fn fill_packets(s: &mut [u32], p: u32) {
     }
 }
 
+fn fill_numbers(s: &mut [u64], n: u64) {
+    let mut i = 0;
+    while i < s.len() {
+        s[i] = n;
+        i += 1;
+    }
+}
+
 // A number as a 32-bit argument: the largest one where it is larger.
 pub fn narrow(n: u64) -> u32 {
     if n > 0xffff_ffff {
@@ -187,6 +213,42 @@ pub fn take_packets(before: Taken, buffer: &mut [u32]) -> Taken {
     let mut bytes = [0u8; 16384];
     let stream = take_bytes(n, &mut bytes, 4 * n.value);
     read_packets(&bytes, packets_part_mut(buffer, n.value));
+    Taken {
+        stream,
+        value: n.value,
+    }
+}
+
+// Reads the numbers of a slice out of little-endian bytes.
+fn read_numbers(bytes: &[u8], numbers: &mut [u64]) {
+    let mut i: usize = 0;
+    while i < numbers.len() {
+        if i > 2048 {
+            return;
+        }
+        numbers[i] = fields::le_u64(bytes, 8 * i);
+        i += 1;
+    }
+}
+
+// Reads the next list of numbers into the start of a buffer of MOST_NUMBERS.
+pub fn take_numbers(before: Taken, buffer: &mut [u64]) -> Taken {
+    let n = take_length(before, MOST_NUMBERS);
+    let mut bytes = [0u8; 16384];
+    let stream = take_bytes(n, &mut bytes, 8 * n.value);
+    read_numbers(&bytes, numbers_part_mut(buffer, n.value));
+    Taken {
+        stream,
+        value: n.value,
+    }
+}
+
+// Lends the next number output, at the start of a buffer of MOST_NUMBERS.
+pub fn take_number_output(before: Taken, buffer: &mut [u64]) -> Taken {
+    let n = take_length(before, MOST_NUMBERS);
+    let number = take_field(n, 8);
+    fill_numbers(numbers_part_mut(buffer, n.value), number.value);
+    let stream = number.stream;
     Taken {
         stream,
         value: n.value,

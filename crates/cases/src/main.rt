@@ -4,6 +4,7 @@ use input::Stream;
 mod input;
 mod output;
 mod packing;
+mod page;
 mod records;
 mod sets;
 mod volumes;
@@ -26,6 +27,7 @@ fn run_case(call: u8) -> Stream {
         10 => volumes::console_check_volume(),
         11 => packing::console_pack(),
         12 => packing::console_unpack(),
+        13 => page::fetch_page(),
         _ => Stream::Unknown,
     }
 }

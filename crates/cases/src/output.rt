@@ -1,4 +1,5 @@
 // The line of a case on standard output: numbers in decimal, outputs in hex.
+use crate::input::packets_part;
 use crate::input::part;
 use answers::Refusal;
 use libc::STDOUT_FILENO;
@@ -92,6 +93,29 @@ pub fn put_packets(packets: &[u32]) {
     let mut bytes = [0u8; 16384];
     turn(packets, &mut bytes);
     put_hex(part(&bytes, 4 * (packets.len() as u64)));
+}
+
+// Writes the two halves of some numbers, the high one first, as far as there is room.
+fn halve(numbers: &[u64], halves: &mut [u32]) {
+    let mut i = 0;
+    while i < numbers.len() {
+        if i >= halves.len() / 2 {
+            return;
+        }
+        halves[2 * i] = (numbers[i] / 4294967296 % 4294967296) as u32;
+        halves[2 * i + 1] = (numbers[i] % 4294967296) as u32;
+        i += 1;
+    }
+}
+
+// At most 2,048 numbers in hex, sixteen digits each, after a space; `-` where there are none.
+pub fn put_numbers(numbers: &[u64]) {
+    if numbers.len() > 2048 {
+        return;
+    }
+    let mut halves = [0u32; 4096];
+    halve(numbers, &mut halves);
+    put_packets(packets_part(&halves, 2 * (numbers.len() as u64)));
 }
 
 pub fn end_line() {

@@ -11,7 +11,7 @@ pub const MOST: usize = 2_147_483_647;
 pub fn ranges(byte: u8) -> &'static [&'static str] {
     match byte {
         SET_CHECK => &["index", "metadata file", "sequence file"],
-        DECODE => &["index", "sequence file"],
+        DECODE | PAGE => &["index", "sequence file"],
         CONSOLE_VOLUME_CHECK => &["index", "sequence file", "header file"],
         CONSOLE_PACK => &["codes"],
         CONSOLE_UNPACK => &["packets"],
@@ -31,7 +31,16 @@ pub fn pair(range: &'static str) -> Shows {
     Shows::pair("22", range, "the number asked next")
 }
 
+/// An empty list opens no file, and still its files may not be too large.
+pub fn no_numbers(range: &'static str) -> Shows {
+    Shows::side("22", range, "2,147,483,648 bytes do not, for an empty list")
+}
+
 /// All that is to be shown of a call.
 pub fn asked(byte: u8) -> Vec<Shows> {
-    ranges(byte).iter().flat_map(|range| [last(range), first(range), pair(range)]).collect()
+    let of_range = |range: &&'static str| match byte {
+        PAGE => vec![last(range), first(range), pair(range), no_numbers(range)],
+        _ => vec![last(range), first(range), pair(range)],
+    };
+    ranges(byte).iter().flat_map(of_range).collect()
 }

@@ -12,6 +12,9 @@ pub mod metadata_rules;
 pub mod nodes;
 pub mod order;
 pub mod pack_cases;
+pub mod page_cases;
+pub mod page_lists;
+pub mod page_rules;
 pub mod record_cases;
 pub mod record_faults;
 pub mod record_rules;
@@ -29,27 +32,41 @@ pub mod volume_rules;
 pub mod volumes;
 
 use crate::call::*;
+use crate::line::{done_of, number_of};
 use order::{Order, Shows};
 use rng::Rng;
 use samples::Samples;
 
-/// A call to compare. `aim` is the number that the generator means to reach, where it knows it; `shows` is what the
-/// case shows of the order of refusals.
+/// A call to compare. `aim` is the number that the generator means to reach, where it knows it, and `done` how many items
+/// of a page; `shows` is what the case shows of the order of refusals.
 #[derive(Clone, Debug)]
 pub struct Case {
     pub call: Call,
     pub aim: Option<u32>,
+    pub done: Option<usize>,
     pub note: String,
     pub shows: Option<Shows>,
 }
 
 impl Case {
     pub fn aimed(call: Call, aim: u32, note: impl Into<String>) -> Case {
-        Case { call, aim: Some(aim), note: note.into(), shows: None }
+        Case { call, aim: Some(aim), done: None, note: note.into(), shows: None }
     }
 
     pub fn free(call: Call, note: impl Into<String>) -> Case {
-        Case { call, aim: None, note: note.into(), shows: None }
+        Case { call, aim: None, done: None, note: note.into(), shows: None }
+    }
+
+    /// The same case, meant to have so many items done.
+    pub fn with_done(mut self, done: usize) -> Case {
+        self.done = Some(done);
+        self
+    }
+
+    /// Whether a line has the number that the case aims at, and as many items done.
+    pub fn is_hit_by(&self, line: &str) -> bool {
+        let is_number = self.aim.is_none_or(|aim| number_of(line) == Some(aim));
+        is_number && self.done.is_none_or(|done| done_of(line) == Some(done))
     }
 
     /// The same case, said to show a side of a rule or a pair of rules.
@@ -60,7 +77,7 @@ impl Case {
 }
 
 /// The calls that have a generator: all of them.
-pub const GENERATED: [u8; 12] = [
+pub const GENERATED: [u8; 13] = [
     VOLUME_CHECK,
     DECODE,
     PACK,
@@ -73,6 +90,7 @@ pub const GENERATED: [u8; 12] = [
     CONSOLE_VOLUME_CHECK,
     CONSOLE_PACK,
     CONSOLE_UNPACK,
+    PAGE,
 ];
 
 /// The cases of a call: every planned one, then random ones until there are as many as asked.
@@ -94,6 +112,7 @@ pub fn planned(byte: u8, rng: &mut Rng, samples: &Samples) -> Vec<Case> {
         LABEL => label_cases::planned(rng, samples),
         PACK | CONSOLE_PACK => pack_cases::planned(byte, rng, samples),
         UNPACK | CONSOLE_UNPACK => unpack_cases::planned(byte, rng, samples),
+        PAGE => page_cases::planned(rng, samples),
         other => panic!("no generator for call {other}"),
     }
 }
@@ -109,6 +128,7 @@ pub fn orders(byte: u8) -> Vec<Order> {
         LABEL => label_cases::orders(),
         PACK | CONSOLE_PACK => pack_cases::orders(byte),
         UNPACK | CONSOLE_UNPACK => unpack_cases::orders(byte),
+        PAGE => page_cases::orders(),
         other => panic!("no generator for call {other}"),
     }
 }
@@ -124,6 +144,7 @@ pub fn random(byte: u8, rng: &mut Rng) -> Case {
         LABEL => label_cases::random(rng),
         PACK | CONSOLE_PACK => pack_cases::random(byte, rng),
         UNPACK | CONSOLE_UNPACK => unpack_cases::random(byte, rng),
+        PAGE => page_cases::random(rng),
         other => panic!("no generator for call {other}"),
     }
 }

@@ -52,7 +52,7 @@ fn number(answer: Result<(), u32>) -> u32 {
 }
 
 /// A case that is not in the protocol: only what it shows.
-fn case(byte: u8, aim: u32, shows: Shows) -> Case {
+pub fn case(byte: u8, aim: u32, shows: Shows) -> Case {
     Case::aimed(Call::new(byte, vec![]), aim, shows.to_string()).showing(shows)
 }
 

@@ -1,45 +1,58 @@
-//! A range that is lent to the library, with guard bytes on both sides.
+//! A range that is lent to the library, with guards on both sides.
 
-/// How many guard bytes stand on each side, at least.
+/// How many guards stand on each side, at least.
 const GUARD: usize = 64;
 
-pub struct Lent {
-    bytes: Vec<u8>,
-    start: usize,
-    length: usize,
-    as_lent: Vec<u8>,
+/// What a range is made of: bytes, or numbers of eight bytes.
+pub trait Item: Copy + PartialEq {
+    /// The guard at a place: never the same twice in a row.
+    fn guard(place: usize) -> Self;
 }
 
-impl Lent {
-    /// Lends these bytes. The shift moves them against the machine's words.
-    pub fn new(content: &[u8], shift: usize) -> Lent {
+impl Item for u8 {
+    fn guard(place: usize) -> u8 {
+        (place * 37 + 165) as u8
+    }
+}
+
+impl Item for u64 {
+    fn guard(place: usize) -> u64 {
+        (place as u64 + 1).wrapping_mul(0x9e37_79b9_7f4a_7c15)
+    }
+}
+
+pub struct Lent<T> {
+    items: Vec<T>,
+    start: usize,
+    length: usize,
+    as_lent: Vec<T>,
+}
+
+impl<T: Item> Lent<T> {
+    /// Lends these bytes or numbers. The shift moves bytes against the machine's words.
+    pub fn new(content: &[T], shift: usize) -> Lent<T> {
         let start = GUARD + shift % 8;
-        let mut bytes: Vec<u8> = (0..start + content.len() + GUARD).map(guard).collect();
-        bytes[start..start + content.len()].copy_from_slice(content);
-        Lent { bytes, start, length: content.len(), as_lent: content.to_vec() }
+        let mut items: Vec<T> = (0..start + content.len() + GUARD).map(T::guard).collect();
+        items[start..start + content.len()].copy_from_slice(content);
+        Lent { items, start, length: content.len(), as_lent: content.to_vec() }
     }
 
-    pub fn inside(&self) -> &[u8] {
-        &self.bytes[self.start..self.start + self.length]
+    pub fn inside(&self) -> &[T] {
+        &self.items[self.start..self.start + self.length]
     }
 
-    pub fn inside_mut(&mut self) -> &mut [u8] {
-        &mut self.bytes[self.start..self.start + self.length]
+    pub fn inside_mut(&mut self) -> &mut [T] {
+        &mut self.items[self.start..self.start + self.length]
     }
 
-    /// Whether no byte outside was touched.
+    /// Whether nothing outside was touched.
     pub fn is_guarded(&self) -> bool {
         let inside = self.start..self.start + self.length;
-        self.bytes.iter().enumerate().all(|(k, byte)| inside.contains(&k) || *byte == guard(k))
+        self.items.iter().enumerate().all(|(k, item)| inside.contains(&k) || *item == T::guard(k))
     }
 
-    /// Whether the bytes inside are as they were lent.
+    /// Whether everything inside is as it was lent.
     pub fn is_as_lent(&self) -> bool {
         self.inside() == self.as_lent
     }
-}
-
-/// The guard byte at a place: never the same twice in a row.
-fn guard(place: usize) -> u8 {
-    (place * 37 + 165) as u8
 }

@@ -2,6 +2,7 @@
 
 use crate::lent::Lent;
 use crate::library;
+use crate::page::page_line;
 use second::call::*;
 use second::stream::hex;
 
@@ -11,7 +12,8 @@ pub fn library_line(call: &Call, shift: usize) -> String {
         CONSOLE_PACK => pack_line(call, shift),
         CONSOLE_UNPACK => unpack_line(call, shift),
         CONSOLE_VOLUME_CHECK => volume_line(call, shift),
-        other => panic!("the C face has no call {other}"),
+        PAGE => page_line(call, shift),
+        other => panic!("no C function takes the cases of call {other}"),
     }
 }
 
@@ -47,7 +49,7 @@ fn volume_line(call: &Call, shift: usize) -> String {
 }
 
 /// The answer number and the outputs; and what was touched that may not be.
-fn line(number: u32, inputs: &[&Lent], outputs: &[&Lent]) -> String {
+fn line(number: u32, inputs: &[&Lent<u8>], outputs: &[&Lent<u8>]) -> String {
     let mut fields = vec![number.to_string()];
     fields.extend(outputs.iter().map(|output| hex(output.inside())));
     if inputs.iter().any(|input| !input.is_as_lent()) {

@@ -1,10 +1,11 @@
-//! `face [--seed N] [--count N] [--samples DIR]`: calls the static library's C functions directly, with guard bytes
-//! around every lent range, on the cases of `compare` and on ranges too large for its protocol.
+//! `face [--seed N] [--count N] [--samples DIR]`: calls the static library's C functions directly, and the timing library's
+//! page, with guard bytes around every lent range, on the cases of `compare` and on ranges too large for its protocol.
 
 mod large;
 mod lent;
 mod library;
 mod lines;
+mod page;
 mod timing;
 
 use second::call::*;
@@ -20,6 +21,11 @@ fn calls(large: Large) -> impl Iterator<Item = u8> {
     SIGNATURES.iter().filter(move |signature| signature.large == large).map(|signature| signature.byte)
 }
 
+/// Whether a C function takes all cases of a call, and not only ranges that are too large.
+fn takes_cases(byte: u8) -> bool {
+    byte == PAGE || calls(Large::CFunction).any(|other| other == byte)
+}
+
 /// All cases of one call, and its large ranges.
 fn outcome(byte: u8, options: &Options, samples: &samples::Samples, large: &[u8]) -> Result<Outcome, String> {
     let mut outcome = Outcome::default();
@@ -30,12 +36,13 @@ fn outcome(byte: u8, options: &Options, samples: &samples::Samples, large: &[u8]
         CONSOLE_PACK => large::pack(&mut outcome, large)?,
         CONSOLE_UNPACK => large::unpack(&mut outcome, large)?,
         CONSOLE_VOLUME_CHECK => large::check_volume(&mut outcome, large),
-        other => return Err(format!("the C face has no call {other}")),
+        PAGE => page::large(&mut outcome, large),
+        other => return Err(format!("no C function takes the cases of call {other}")),
     }
     Ok(outcome)
 }
 
-/// The large ranges of a call that only the timing library exports.
+/// The large ranges of a call of which the timing library shows nothing else.
 fn timed(byte: u8, large: &[u8]) -> Result<Outcome, String> {
     let mut outcome = Outcome::default();
     match byte {
@@ -67,15 +74,17 @@ fn run() -> Result<usize, String> {
     let options = options(std::env::args().skip(1))?;
     let samples = samples::load(&options.samples)?;
     let large = large::too_large()?;
+    let (whole, only_large): (Vec<u8>, Vec<u8>) =
+        calls(Large::CFunction).chain(calls(Large::Timing)).partition(|byte| takes_cases(*byte));
     let mut wrong = 0;
     let mut outcomes = Vec::new();
-    for byte in calls(Large::CFunction) {
+    for byte in whole {
         let outcome = outcome(byte, &options, &samples, large)?;
         wrong += outcome.tell(byte, true);
         outcomes.push((byte, outcome));
     }
     println!("{}", table::numbers(&outcomes, true));
-    for byte in calls(Large::Timing) {
+    for byte in only_large {
         let outcome = timed(byte, large)?;
         outcome.tell_differences();
         wrong += outcome.differences.len();

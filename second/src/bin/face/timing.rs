@@ -1,4 +1,4 @@
-//! Number 22 of calls that the C face lacks and the timing library exports.
+//! Number 22 of calls that the C face lacks and the timing library exports. Of the page it takes every case: see `page`.
 
 use crate::large::{files, NO_SEQUENCES};
 use second::call::{DECODE, SET_CHECK};
