@@ -6,7 +6,9 @@
  *
  * The inputs are as databases have them: proteins of 350 residues on average, most from 100 to 500, one in sixteen longer, up to 2,500;
  * genomes in runs of a million bases, plain and with 1% N; short runs of 100 amino residues and of 150 bases. A volume's sequences are
- * such proteins, or DNA of 100 to 1,100 bases; its index has 0.3 to 50 MB, its sequence file up to 1.4 GB. A set's sequences are such
+ * such proteins, or DNA of 100 to 1,100 bases; its index has 0.3 to 50 MB, its sequence file up to 1.4 GB. The fifty sequences of a page
+ * stand anywhere in a volume of 5,000 sequences of 400 residues, or of 500 of 100,000, DNA with 1% N; as many pages are fetched as the
+ * volume would fill, and the second reference is the library's own decoding, a call for each sequence. A set's sequences are such
  * proteins, or contigs of 200 to 20,000 bases with 1% N. */
 #include "bench.h"
 
@@ -21,6 +23,7 @@ static int compare_all(void)
     compare_runs();
     compare_volumes();
     compare_sequences();
+    compare_pages();
     compare_sets();
     return print_agreed();
 }
@@ -38,6 +41,8 @@ static void time_all(void)
     print_head("Decoding, MB of residues", "");
     for (size_t size = 1000000; size <= 100000000; size *= 10)
         time_sequences(size);
+    print_head("Fetching pages of fifty, MB of residues", "single calls");
+    time_pages();
     print_head("The set check, MB of the sequence file", "plain C");
     for (size_t size = 1000000; size <= 100000000; size *= 10)
         time_sets(size);

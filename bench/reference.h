@@ -15,6 +15,9 @@ typedef uint32_t set_call(const uint8_t *index, size_t index_len, const uint8_t 
                           const uint8_t *sequence, size_t sequence_len, uint8_t *results, size_t results_len);
 typedef uint32_t decode_call(const uint8_t *index, size_t index_len, const uint8_t *sequence, size_t sequence_len, uint64_t number,
                              uint8_t *out, size_t out_len);
+typedef uint32_t page_call(const uint8_t *index, size_t index_len, const uint8_t *sequence, size_t sequence_len,
+                           const uint64_t *numbers, size_t numbers_len, uint8_t *out, size_t out_len, uint64_t *ends, size_t ends_len,
+                           uint8_t *results, size_t results_len);
 
 /* The best C with the same checks in the same order and the same answers. */
 pack_call c_pack;
@@ -22,6 +25,7 @@ unpack_call c_unpack;
 volume_call c_check_volume;
 set_call c_check_set;
 decode_call c_decode;
+page_call c_fetch_page;
 
 /* C that checks nothing. */
 pack_call unchecked_pack;

@@ -1,5 +1,5 @@
-/* Decoding one sequence in C with every check of the library's call, in its order. Protein bytes are tested by a reduction and translated
- * without a table, bases written four a byte: all three loops are vectorised. */
+/* Decoding one sequence, and a page of them, in C with every check of the library's calls, in their order. Protein bytes are tested by a
+ * reduction and translated without a table, bases written four a byte: all three loops are vectorised. */
 #include "index.h"
 #include "reference.h"
 
@@ -127,19 +127,26 @@ static void fill(uint8_t *out, uint8_t code, size_t n)
     }
 }
 
+/* Where a sequence's residues go, how many bytes are left there, and, once it is decoded, how many it has. */
+struct output {
+    uint8_t *at;
+    size_t room, length;
+};
+
 /* Protein sequence i: 7, 8, 11, 13. */
-static uint32_t decode_protein(const struct fixed *f, const uint8_t *sequence, size_t sequence_len, size_t i, uint8_t *out, size_t room)
+static uint32_t decode_protein(const struct fixed *f, const uint8_t *sequence, size_t sequence_len, size_t i, struct output *out)
 {
     int64_t start = offset(f->sequences, i), next = offset(f->sequences, i + 1);
     if (start < 1 || start >= next || next > (int64_t)sequence_len)
         return 7;
     if (sequence[start - 1] != 0 || sequence[next - 1] != 0)
         return 8;
-    return write_protein(sequence + start, (size_t)(next - 1 - start), out, room);
+    out->length = (size_t)(next - 1 - start);
+    return write_protein(sequence + start, out->length, out->at, out->room);
 }
 
 /* DNA sequence i: 7, 12, 13. */
-static uint32_t decode_dna(const struct fixed *f, const uint8_t *sequence, size_t sequence_len, size_t i, uint8_t *out, size_t room)
+static uint32_t decode_dna(const struct fixed *f, const uint8_t *sequence, size_t sequence_len, size_t i, struct output *out)
 {
     int64_t start = offset(f->sequences, i), end = offset(f->ambiguities, i), next = offset(f->sequences, i + 1);
     size_t entries;
@@ -149,14 +156,23 @@ static uint32_t decode_dna(const struct fixed *f, const uint8_t *sequence, size_
     uint64_t residues = 4 * (uint64_t)(end - start - 1) + (sequence[end - 1] & 3);
     if (check_range(sequence + end, (size_t)(next - end), residues, &entries, &wide) != 0)
         return 12;
-    if (residues > room)
+    if (residues > out->room)
         return 13;
-    write_bases(sequence + start, (size_t)(end - start), residues, out);
+    out->length = residues;
+    write_bases(sequence + start, (size_t)(end - start), residues, out->at);
     for (size_t k = 0; k < entries; k++) {
         struct entry x = entry_at(sequence + end + 4 + (wide ? 8 : 4) * k, wide);
-        fill(out + x.start, ambiguity_codes[x.value], x.repeat);
+        fill(out->at + x.start, ambiguity_codes[x.value], x.repeat);
     }
     return 0;
+}
+
+/* The sequence of a number, in an index that is read: 10, and its own refusals. */
+static uint32_t decode_number(const struct fixed *f, const uint8_t *sequence, size_t sequence_len, uint64_t number, struct output *out)
+{
+    if (number >= (uint64_t)f->n)
+        return 10;
+    return f->type == 1 ? decode_protein(f, sequence, sequence_len, number, out) : decode_dna(f, sequence, sequence_len, number, out);
 }
 
 uint32_t c_decode(const uint8_t *index, size_t index_len, const uint8_t *sequence, size_t sequence_len, uint64_t number,
@@ -168,8 +184,33 @@ uint32_t c_decode(const uint8_t *index, size_t index_len, const uint8_t *sequenc
         return 22;
     if ((refused = c_read_index(index, index_len, &f)) != 0)
         return refused;
-    if (number >= (uint64_t)f.n)
-        return 10;
-    return f.type == 1 ? decode_protein(&f, sequence, sequence_len, number, out, out_len)
-                       : decode_dna(&f, sequence, sequence_len, number, out, out_len);
+    return decode_number(&f, sequence, sequence_len, number, &(struct output){out, out_len, 0});
+}
+
+/* 22, then 13 for the ends; the index is read once for the whole list. */
+uint32_t c_fetch_page(const uint8_t *index, size_t index_len, const uint8_t *sequence, size_t sequence_len, const uint64_t *numbers,
+                      size_t numbers_len, uint8_t *out, size_t out_len, uint64_t *ends, size_t ends_len, uint8_t *results,
+                      size_t results_len)
+{
+    struct fixed f;
+    struct output left = {out, out_len, 0};
+    size_t done = 0;
+    uint32_t refused = 0;
+    if (index_len > MOST_BYTES || sequence_len > MOST_BYTES)
+        refused = 22;
+    else if (ends_len < numbers_len)
+        refused = 13;
+    else if (numbers_len > 0)
+        refused = c_read_index(index, index_len, &f);
+    while (refused == 0 && done < numbers_len) {
+        refused = decode_number(&f, sequence, sequence_len, numbers[done], &left);
+        if (refused != 0)
+            break;
+        left.at += left.length;
+        left.room -= left.length;
+        ends[done++] = out_len - left.room;
+    }
+    if (results_len >= 8)
+        put64(results, done);
+    return refused;
 }

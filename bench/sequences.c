@@ -9,46 +9,10 @@
 #include "timing.h"
 #include "volumes.h"
 
-/* Writes an ambiguity range: ten N in each thousand residues, in entries of 64 or 32 bits; its end. */
-static size_t put_corrections(uint8_t *sequence, size_t at, size_t residues, int wide)
-{
-    uint32_t entries = (uint32_t)(residues / 1000);
-    put_be(sequence + at, wide ? 0x80000000u | 2 * entries : entries);
-    at += 4;
-    for (uint32_t i = 0; i < entries; i++) {
-        put_be(sequence + at, wide ? 0xf0090000u : 0xf9000000u | 1000 * i);
-        at += 4;
-        if (wide) {
-            put_be(sequence + at, 1000 * i);
-            at += 4;
-        }
-    }
-    return at;
-}
-
-/* A protein (type 1) or a DNA sequence (type 0) of so many residues. */
+/* A volume of one protein (type 1) or DNA sequence (type 0), and room for its residues. */
 static struct volume make_long(uint32_t type, size_t residues, int wide)
 {
-    struct volume v = {.sequences = 1, .residues = residues};
-    v.index_len = 40 + (type == 1 ? 2 : 3) * 8;
-    v.index = touched(v.index_len);
-    v.sequence = touched(residues + residues / 100 + 16);
-    uint8_t *headers = put_index(v.index, type, 1, residues, residues), *sequences = headers + 8, *ambiguities = sequences + 8;
-    uint64_t state = 13;
-    size_t at = type, bytes = type == 1 ? residues : residues / 4;
-    memset(headers, 0, 8);
-    put_be(sequences, type);
-    v.sequence[0] = 0;
-    for (size_t i = 0; i < bytes; i++)
-        v.sequence[at++] = type == 1 ? (uint8_t)(next_random(&state) % 28) : (uint8_t)next_random(&state);
-    v.sequence[at++] = type == 1 ? 0 : (uint8_t)((next_random(&state) & 0xfc) | residues % 4);
-    if (type == 0) {
-        put_be(ambiguities, (uint32_t)at);
-        at = put_corrections(v.sequence, at, residues, wide);
-        put_be(ambiguities + 4, (uint32_t)at);
-    }
-    put_be(sequences + 4, (uint32_t)at);
-    v.sequence_len = at;
+    struct volume v = make_even(type, 1, residues, wide);
     v.out = touched(residues);
     return v;
 }

@@ -76,7 +76,8 @@ void add_call(const char *name, const double nanoseconds[3])
 
 void print_table(void)
 {
-    printf("\n| call | speed, GB/s | of the best C | of unchecked C; set check: of plain C | of memcpy |\n|---|---|---|---|---|\n");
+    printf("\n| call | speed, GB/s | of the best C | of unchecked C; page: of single calls; set check: of plain C | of memcpy |\n"
+           "|---|---|---|---|---|\n");
     for (int i = 0; i < row_count; i++) {
         struct row *r = &rows[i];
         printf("| %s | %.1f to %.1f | %.2f to %.2f | ", r->name, r->speed.low, r->speed.high, r->best.low, r->best.high);

@@ -10,4 +10,9 @@ uint32_t gull_time_check_set(const uint8_t *index, size_t index_len, const uint8
 uint32_t gull_time_decode(const uint8_t *index, size_t index_len, const uint8_t *sequence, size_t sequence_len, uint64_t number,
                           uint8_t *out, size_t out_len);
 
+/* The result is how many items were done, on a refusal too; a range of fewer than eight bytes stays as it was. */
+uint32_t gull_time_fetch_page(const uint8_t *index, size_t index_len, const uint8_t *sequence, size_t sequence_len,
+                              const uint64_t *numbers, size_t numbers_len, uint8_t *out, size_t out_len, uint64_t *ends,
+                              size_t ends_len, uint8_t *results, size_t results_len);
+
 #endif

@@ -78,6 +78,61 @@ struct volume make_volume(uint32_t type, size_t n)
     return v;
 }
 
+/* An ambiguity range: so many corrections of ten N, one in each thousand residues, in entries of 64 or 32 bits; its end. Without any it is
+ * empty. */
+static size_t put_corrections(uint8_t *sequence, size_t at, size_t entries, int wide)
+{
+    if (entries == 0)
+        return at;
+    put_be(sequence + at, (uint32_t)(wide ? 0x80000000u | 2 * entries : entries));
+    at += 4;
+    for (uint32_t i = 0; i < entries; i++) {
+        put_be(sequence + at, wide ? 0xf0090000u : 0xf9000000u | 1000 * i);
+        at += 4;
+        if (wide) {
+            put_be(sequence + at, 1000 * i);
+            at += 4;
+        }
+    }
+    return at;
+}
+
+/* One sequence of residues drawn at random; its end. */
+static size_t put_drawn(uint8_t *sequence, size_t at, uint32_t type, size_t length, uint64_t *state)
+{
+    size_t bytes = type == 1 ? length : length / 4;
+    for (size_t i = 0; i < bytes; i++)
+        sequence[at++] = type == 1 ? (uint8_t)(next_random(state) % 28) : (uint8_t)next_random(state);
+    sequence[at++] = type == 1 ? 0 : (uint8_t)((next_random(state) & 0xfc) | length % 4);
+    return at;
+}
+
+struct volume make_even(uint32_t type, size_t n, size_t length, int wide)
+{
+    struct volume v = {.sequences = n, .residues = n * length};
+    size_t table = 4 * (n + 1), at = type;
+    v.index_len = 40 + (type == 1 ? 2 : 3) * table;
+    v.index = touched(v.index_len);
+    v.sequence = touched(n * (length + length / 100 + 16));
+    uint8_t *headers = put_index(v.index, type, n, v.residues, length), *sequences = headers + table, *ambiguities = sequences + table;
+    uint64_t state = 13;
+    memset(headers, 0, table);
+    v.sequence[0] = 0;
+    for (size_t i = 0; i < n; i++) {
+        put_be(sequences + 4 * i, (uint32_t)at);
+        at = put_drawn(v.sequence, at, type, length, &state);
+        if (type == 1)
+            continue;
+        put_be(ambiguities + 4 * i, (uint32_t)at);
+        at = put_corrections(v.sequence, at, (i + 1) * length / 1000 - i * length / 1000, wide);
+    }
+    put_be(sequences + 4 * n, (uint32_t)at);
+    if (type == 0)
+        put_be(ambiguities + 4 * n, (uint32_t)at);
+    v.sequence_len = at;
+    return v;
+}
+
 void free_volume(struct volume *v)
 {
     free(v->index);

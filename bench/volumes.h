@@ -15,6 +15,10 @@ struct volume {
 /* A volume of n sequences: proteins as databases have them (type 1), or DNA of 100 to 1,100 bases (type 0), one in eight with a
  * correction. */
 struct volume make_volume(uint32_t type, size_t n);
+
+/* A volume of n sequences of one length, their residues drawn at random, without a header file; DNA has ten N in each thousand residues,
+ * counted over all sequences, in entries of 64 or 32 bits. */
+struct volume make_even(uint32_t type, size_t n, size_t length, int wide);
 void free_volume(struct volume *v);
 
 #endif

@@ -1,11 +1,14 @@
 // Calls that the C face lacks, exported for the benchmark and the tests alone. They are never linked into the library.
 use answers::Refusal;
 use dsqdata::SetAnswer;
+use pages::PageAnswer;
 use sequence::DecodeAnswer;
 ghost use mathlib.Core.Path.{_≡_};
 ghost use lib.ListN.{length};
+ghost use Rattle.fields.specs.Written.{numberPut};
 ghost use Rattle.dsqdata.specs.Check.{setNumber};
 ghost use Rattle.sequence.specs.Sequence.{decodeAnswer, decodeOutput, decodeNumber};
+ghost use Rattle.pages.specs.Page.{pageAnswer, pageOutput, pageEnds, pageNumber, pageDone};
 ghost use Rattle.timing.specs.Calls.{timedSet, setResults};
 
 // The bytes that the results of a set check take.
@@ -60,5 +63,32 @@ pub extern "C" fn gull_time_decode(
     match sequence::decode(index, sequence, number, out) {
         DecodeAnswer::Refused(r) => answers::number(r),
         DecodeAnswer::Decoded(_) => 0,
+    }
+}
+
+// Fetches a page. The results are how many items were done, on a refusal too.
+#[no_mangle]
+pub extern "C" fn gull_time_fetch_page(
+    index: &[u8],
+    sequence: &[u8],
+    numbers: &[u64],
+    out: &mut [u8],
+    ends: &mut [u64],
+    results: &mut [u8],
+) -> u32
+    ensures number { λ r. ⌜ r ≡ pageNumber (pageAnswer (now (index .entry)) (now (sequence .entry)) (now (numbers .entry)) (now (out .entry)) (now (ends .entry))) ⌝ }
+    ensures output { λ _. ⌜ now (out .exit) ≡ pageOutput (now (index .entry)) (now (sequence .entry)) (now (numbers .entry)) (now (out .entry)) (now (ends .entry)) ⌝ }
+    ensures ends { λ _. ⌜ now (ends .exit) ≡ pageEnds (now (index .entry)) (now (sequence .entry)) (now (numbers .entry)) (now (out .entry)) (now (ends .entry)) ⌝ }
+    ensures results { λ _. ⌜ now (results .exit) ≡ numberPut 8 0 (pageDone (pageAnswer (now (index .entry)) (now (sequence .entry)) (now (numbers .entry)) (now (out .entry)) (now (ends .entry)))) (now (results .entry)) ⌝ }
+{
+    match pages::fetch_page(index, sequence, numbers, out, ends) {
+        PageAnswer::Stopped { refusal, done } => {
+            fields::put_u64(results, 0, done);
+            answers::number(refusal)
+        }
+        PageAnswer::Fetched(all) => {
+            fields::put_u64(results, 0, all);
+            0
+        }
     }
 }
