@@ -7,7 +7,7 @@
  * The inputs are as databases have them: proteins of 350 residues on average, most from 100 to 500, one in sixteen longer, up to 2,500;
  * genomes in runs of a million bases, plain and with 1% N; short runs of 100 amino residues and of 150 bases. A volume's sequences are
  * such proteins, or DNA of 100 to 1,100 bases; its index has 0.3 to 50 MB, its sequence file up to 1.4 GB. The fifty sequences of a page
- * stand anywhere in a volume of 5,000 sequences of 400 residues, or of 50 MB in sequences of 100,000, DNA with 1% N; as many pages are
+ * stand anywhere in a volume of 5,000 sequences of 400 residues, or of 500 of 100,000, DNA with 1% N, and of 2,000 such; as many pages are
  * fetched as the volume would fill, and the second reference is the library's own decoding, a call for each sequence. A set's sequences
  * are such proteins, or contigs of 200 to 20,000 bases with 1% N. */
 #include "bench.h"
