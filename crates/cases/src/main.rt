@@ -8,6 +8,7 @@ mod page;
 mod records;
 mod sets;
 mod volumes;
+mod writing;
 
 // The most calls of one run.
 const MOST_CALLS: u64 = 1000000000;
@@ -28,6 +29,8 @@ fn run_case(call: u8) -> Stream {
         11 => packing::console_pack(),
         12 => packing::console_unpack(),
         13 => page::fetch_page(),
+        14 => writing::write_nucleotides(),
+        15 => writing::bases_of_code(),
         _ => Stream::Unknown,
     }
 }

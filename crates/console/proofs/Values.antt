@@ -9,6 +9,7 @@ use lib.Seq.{take-suc, take-length, length-take-le}
 use borrow.Author.Tests.{le-leb, lt-leb}
 use Rattle.laws.specs.Writing.{writtenAt}
 use Rattle.laws.proofs.Writing.{written-twice}
+use Rattle.fields.specs.Number.{little}
 use Rattle.fields.specs.Written.{littleBytes, numberPut}
 use Rattle.fields.proofs.Laws.{length-little, put-fits}
 use Rattle.console.specs.Results.{resultBytes, resultsPut}
@@ -25,7 +26,7 @@ results-append (x ∷ xs) ys = ap (λ (l : List ℕ). littleBytes 8 x ++ l) (res
 -- one value more, after those before it
 pub results-next : (values results out : List ℕ) (k v : ℕ) → k < length values → 8 * length values ≤ length results → v ≡ getD values k 0
     → out ≡ writtenAt 0 (resultBytes (take k values)) results → length out ≡ length results
-    → numberPut 8 (8 * k) v out ≡ writtenAt 0 (resultBytes (take (k + 1) values)) results
+    → numberPut little 8 (8 * k) v out ≡ writtenAt 0 (resultBytes (take (k + 1) values)) results
 results-next values results out k v h room e so-far same =
     let xs = resultBytes (take k values) in
     let at : length xs ≡ 8 * k = length-results (take k values) ∙ ap (λ (n : ℕ). 8 * n) (length-take-le k values (omega arith)) in
@@ -34,7 +35,7 @@ results-next values results out k v h room e so-far same =
     let join : xs ++ littleBytes 8 v ≡ resultBytes (take (k + 1) values) =
     sym (rw (add-one, take-suc values k 0 h)
     (results-append (take k values) (getD values k 0 ∷ []) ∙ rw (← e) (ap (λ (l : List ℕ). xs ++ l) (append-nil (littleBytes 8 v))))) in
-    put-fits 8 (8 * k) v out fits
+    put-fits little 8 (8 * k) v out fits
     ∙ (ap (λ (l : List ℕ). writtenAt (8 * k) (littleBytes 8 v) l) so-far
     ∙ (ap (λ (n : ℕ). writtenAt n (littleBytes 8 v) (writtenAt 0 xs results)) (sym zero-at)
     ∙ (written-twice 0 xs (littleBytes 8 v) results (omega (arith, length-little 8 v))

@@ -12,7 +12,7 @@ fn write_results(results: &mut [u8], values: &[u64])
 {
     let mut k = 0;
     while k < values.len() {
-        fields::put_u64(results, 8 * k, values[k]);
+        fields::put_le_u64(results, 8 * k, values[k]);
         k += 1;
     }
 }

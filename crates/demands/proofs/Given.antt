@@ -14,7 +14,7 @@ use Rattle.residues.specs.Tables.{ambiguityCode, proteinCode}
 use Rattle.volume.specs.Index.{isProtein}
 use Rattle.volume.specs.Tables.{sequenceStart, proteinLength, dnaEnd, dnaLength, sequenceLength}
 use Rattle.sequence.specs.Bases.{baseAt}
-use Rattle.sequence.specs.Corrections.{entryWidth, entryCount, correctionAt, correctedAt, rangeRules}
+use Rattle.sequence.specs.Corrections.{correctionAt, rangeCorrections, correctedAt, rangeRules}
 use Rattle.sequence.specs.Sequence.{byteFrom, rangeEnd, decodeAnswer}
 use Rattle.sequence.specs.Sequence.{decodeNumber, residuesOf, decodeOutput}
 use Rattle.sequence.specs.Holds.{HasEntries}
@@ -72,8 +72,7 @@ module _ (index sequence : List ℕ) (i : ℕ) (output : List ℕ) (decodes : de
 
     dna-decoded : (k d : ℕ) → k < dnaLength index sequence i
         → getD (decodeOutput index sequence i output) k d
-        ≡ correctedAt sequence (dnaEnd index i + 4) (entryWidth sequence (dnaEnd index i)) (entryCount sequence (dnaEnd index i) (rangeEnd index i)) k
-        (baseAt sequence (sequenceStart index i) k)
+        ≡ correctedAt (rangeCorrections sequence (dnaEnd index i) (rangeEnd index i)) k (baseAt sequence (sequenceStart index i) k)
     dna-decoded k d h =
         code-at k d (rw t h)
         ∙ ap (λ (xs : List ℕ). getD xs k d) (sym (residues-dna index sequence i t))

@@ -18,6 +18,7 @@ use Rattle.volume.specs.Index.{indexAnswer, indexNumber}
 use Rattle.volume.specs.Volume.{volumeRules, volumeAnswer, volumeNumber}
 use Rattle.sequence.specs.Sequence.{decodeRules, decodeAnswer, decodeNumber}
 use Rattle.pages.specs.Page.{Outcome, pageOf, pageAnswer, pageNumber}
+use Rattle.nucleotides.specs.Write.{writeAnswer, writeNumber}
 use Rattle.listing.specs.Listing.{mostListed, listedAnswer}
 use Rattle.dsqdata.specs.Check.{sizeRules, fileRules, setRules, setCheck, setNumber}
 use Rattle.dsqdata.specs.Lookup.{lookupRules, lookupOf, lookupNumber}
@@ -122,6 +123,10 @@ pub fetch-page-large : (index sequence numbers output ends : List ℕ) → SomeL
     (pageAnswer index sequence numbers output ends) ≡ 22
 unfolding pageOf
 fetch-page-large index sequence numbers output ends h = ap (λ (x : Outcome). pageNumber (x .answer)) (two _ index sequence _ h)
+
+pub write-nucleotides-large : (codes : List ℕ) (room : ℕ) → LargeBytes codes → writeNumber (writeAnswer codes room) ≡ 22
+unfolding writeAnswer
+write-nucleotides-large codes room h = rw (not-fit codes h)
 
 module _ (index metadata sequence : List ℕ) (h : SomeLarge (index ∷ metadata ∷ sequence ∷ [])) where
   pub check-set-large : setNumber (setCheck index metadata sequence) ≡ 22

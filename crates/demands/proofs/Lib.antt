@@ -11,3 +11,4 @@ pub mod Demand2
 pub mod Demand2Reads
 pub mod Refusals
 pub mod Pages
+pub mod Nucleotides

@@ -18,6 +18,7 @@ use Rattle.volume.specs.Index.{isProtein, indexRules, readRules}
 use Rattle.volume.specs.Volume.{volumeRules}
 use Rattle.sequence.specs.Sequence.{decodeRules}
 use Rattle.pages.specs.Page.{pageRules}
+use Rattle.nucleotides.specs.Write.{writeRules, basesRules}
 use Rattle.listing.specs.Listing.{listingSizeRules}
 use Rattle.dsqdata.specs.Header.{countOf}
 use Rattle.dsqdata.specs.Check.{rulesTo, sizeRules, startRules, tagRules, fileRules, headerRules, countRules}
@@ -104,6 +105,13 @@ module _ (index sequence : List ℕ) (number room : ℕ) where
       → numbersOf (decodeRules index sequence number room) ≡ 22 ∷ 22 ∷ (indexNumbers ++ (10 ∷ 7 ∷ 7 ∷ 7 ∷ 7 ∷ 12 ∷ 12 ∷ 13 ∷ []))
   unfolding decodeRules indexRules
   dna-decode-numbers t = rw t
+
+-- writing nucleotides: the codes, each code, the bytes needed, the room; the bases of a code
+pub write-nucleotides-numbers : (codes : List ℕ) (room : ℕ) → numbersOf (writeRules codes room) ≡ 22 ∷ 18 ∷ 22 ∷ 13 ∷ []
+write-nucleotides-numbers codes room = refl
+
+pub bases-of-code-numbers : (code : ℕ) → numbersOf (basesRules code) ≡ 18 ∷ []
+bases-of-code-numbers code = refl
 
 -- a page: both files, then its list of ends; then the numbers of each item's own list
 pub fetch-page-numbers : (index sequence numbers ends : List ℕ) → numbersOf (pageRules index sequence numbers ends) ≡ 22 ∷ 22 ∷ 13 ∷ []

@@ -10,7 +10,7 @@ use Rattle.answers.specs.declared.Checked.the-variants.{Passed}
 use Rattle.packets.specs.Packing.{run}
 use Rattle.volume.specs.Tables.{twoBitLength}
 use Rattle.sequence.specs.Bases.{twoBitResidues}
-use Rattle.sequence.specs.Corrections.{entryWidth, entryCount, rangeRules, corrected}
+use Rattle.sequence.specs.Corrections.{rangeRules, rangeCorrections, corrected}
 use Rattle.elements.specs.Parts.{integerAt}
 use Rattle.elements.specs.declared.IntegerAnswer.the-variants.{Integer}
 
@@ -28,7 +28,7 @@ Right (packs alphabet codes packets) = run alphabet codes ≡ packets
 Right (reads bytes residues) = twoBitResidues bytes 0 (twoBitLength bytes 0 (length bytes)) ≡ residues
 Right (corrects range residues result) =
     (checkedBy (rangeRules range 0 (length range) (length residues)) ≡ Passed)
-    × (corrected range 4 (entryWidth range 0) (entryCount range 0 (length range)) residues ≡ result)
+    × (corrected (rangeCorrections range 0 (length range)) residues ≡ result)
 Right (counts element number) = integerAt element 0 ≡ Integer number
 
 -- Every case of a list is right.

@@ -4,8 +4,11 @@ use mathlib.Core.Bool.{Bool, true, false, cond}
 use mathlib.Core.List.{List, [], _∷_}
 use Prim.Native.Nat.{ℕ, zero, suc, _+_, _*_, _-_, _/_, _%_, _^_, _≤_, _<_}
 use native.Mathlib.Omega.{arith}
+use native.Mathlib.Nat.{add-zero, mod-eq-of-lt}
 use native.Mathlib.Numerals.{add-one, add-two, add-three}
-use lib.ListN.{length, getD, List·getD-eq-default}
+use lib.ListN.{length, getD, take, drop, List·getD-eq-default}
+use lib.Pow.{mod-pow-add}
+use lib.Seq.{drop-cons}
 use lib.Dec.{ltb, leb}
 use borrow.Author.Tests.{le-leb, lt-leb, leb-true, leb-false}
 use lib.IntN.{ℤ}
@@ -15,10 +18,11 @@ use mir.Val.{toZ, ofZ, sel, bytes, hbits}
 use mir.ValLaws.{toZ-ofZ}
 use Rattle.laws.specs.Digits.{value}
 use Rattle.laws.specs.Writing.{writtenAt}
+use Rattle.laws.proofs.Digits.{length-digits, value-digits}
 use Rattle.laws.proofs.Tests.{bool-cases}
 use Rattle.laws.proofs.Writing.{length-written}
 use Rattle.fields.specs.Number.{Order, big, little, number, bytesAt, unsignedAt, signed, signedAt}
-use Rattle.fields.specs.Written.{littleBytes, numberPut}
+use Rattle.fields.specs.Written.{littleBytes, numberBytes, numberPut}
 
 pub unsigned-bytes : (order : Order) (w : ℕ) (file : List ℕ) (at : ℕ) → unsignedAt order w file at ≡ number order (bytesAt w file at 0)
 unfolding unsignedAt
@@ -122,20 +126,59 @@ pub length-little : (w n : ℕ) → length (littleBytes w n) ≡ w
 length-little zero n = refl
 length-little (suc w) n = ap suc (length-little w (n / 256))
 
-pub put-fits : (w at n : ℕ) (range : List ℕ) → at + w ≤ length range → numberPut w at n range ≡ writtenAt at (littleBytes w n) range
-unfolding numberPut
-put-fits w at n range h = rw (le-leb (at + w) (length range) h)
+module _ (order : Order) (w : ℕ) where
+  pub length-number : (n : ℕ) → length (numberBytes order w n) ≡ w
+  length-number = by order
+    where
+      by : (o : Order) (n : ℕ) → length (numberBytes o w n) ≡ w
+      by big n = length-digits 8 w n
+      by little n = length-little w n
 
-pub put-not : (w at n : ℕ) (range : List ℕ) → length range < at + w → numberPut w at n range ≡ range
-unfolding numberPut
-put-not w at n range h = rw (lt-leb (at + w) (length range) h)
+  pub put-fits : (at n : ℕ) (range : List ℕ) → at + w ≤ length range → numberPut order w at n range ≡ writtenAt at (numberBytes order w n) range
+  unfolding numberPut
+  put-fits at n range h = rw (le-leb (at + w) (length range) h)
 
-pub length-put : (w at n : ℕ) (range : List ℕ) → length (numberPut w at n range) ≡ length range
-length-put w at n range =
-    bool-cases (leb (at + w) (length range))
-    (λ e. let h : at + w ≤ length range = leb-true _ _ e in
-    rw (put-fits w at n range h) (length-written at (littleBytes w n) range (rw (length-little w n) h)))
-    (λ e. rw (put-not w at n range (leb-false _ _ e)))
+  pub put-not : (at n : ℕ) (range : List ℕ) → length range < at + w → numberPut order w at n range ≡ range
+  unfolding numberPut
+  put-not at n range h = rw (lt-leb (at + w) (length range) h)
+
+  pub length-put : (at n : ℕ) (range : List ℕ) → length (numberPut order w at n range) ≡ length range
+  length-put at n range =
+      bool-cases (leb (at + w) (length range))
+      (λ e. let h : at + w ≤ length range = leb-true _ _ e in
+      rw (put-fits at n range h) (length-written at (numberBytes order w n) range (rw (length-number n) h)))
+      (λ e. rw (put-not at n range (leb-false _ _ e)))
 
 pub little-cons : (w m n : ℕ) → w ≡ suc m → littleBytes w n ≡ n % 256 ∷ littleBytes m (n / 256)
 little-cons w m n e = rw e
+
+-- ---- a number read where its bytes stand
+
+little-value : (w n : ℕ) → number little (littleBytes w n) ≡ n % 2 ^ (8 * w)
+little-value zero n = omega arith
+little-value (suc w) n =
+    let e : 8 * suc w ≡ 8 * w + 8 = omega arith in
+    let r = little-value w (n / 256) in
+    rw (e, mod-pow-add n (8 * w) 8) (omega arith)
+
+-- the bytes of a number write its lowest w bytes, in every order
+pub bytes-number : (order : Order) (w n : ℕ) → number order (numberBytes order w n) ≡ n % 2 ^ (8 * w)
+bytes-number big w n = value-digits 8 w n
+bytes-number little w n = little-value w n
+
+-- the bytes of a field that lies inside the file
+pub bytes-inside : (w : ℕ) (file : List ℕ) (at k : ℕ) → at + k + w ≤ length file → bytesAt w file at k ≡ take w (drop (at + k) file)
+bytes-inside zero file at k h = refl
+bytes-inside (suc w) file at k h =
+    let e : at + suc k ≡ suc (at + k) = omega arith in
+    rw (drop-cons file (at + k) 0 (omega arith), bytes-inside w file at (suc k) (omega arith), e)
+
+-- a number reads back from the place where its bytes stand
+pub number-back : (order : Order) (w n : ℕ) (file : List ℕ) (at : ℕ) → at + w ≤ length file → n < 2 ^ (8 * w)
+    → take w (drop at file) ≡ numberBytes order w n → unsignedAt order w file at ≡ n
+unfolding unsignedAt
+number-back order w n file at h l e =
+    let k : at + 0 ≡ at = add-zero at in
+    ap (number order) (bytes-inside w file at 0 (omega arith) ∙ ap (λ (x : ℕ). take w (drop x file)) k ∙ e)
+    ∙ bytes-number order w n
+    ∙ mod-eq-of-lt l

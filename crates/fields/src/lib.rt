@@ -1,5 +1,5 @@
 // Integers at a place of a byte slice, of 4 or 8 bytes, big- or little-endian, unsigned or in two's complement, and numbers written
-// as little-endian bytes. Every public function is total: a byte past the end reads as 0, and a number that does not fit is not written.
+// in either order. Every public function is total: a byte past the end reads as 0, and a number that does not fit is not written.
 mod sizes;
 
 pub use sizes::natural_at;
@@ -11,7 +11,7 @@ ghost use lib.Dec.{leb};
 ghost use lib.ListN.{length, getD};
 ghost use Rattle.fields.specs.Number.{big, little, number, bytesAt, unsignedAt, signed, signedAt};
 ghost use Rattle.laws.specs.Writing.{writtenAt};
-ghost use Rattle.fields.specs.Written.{littleBytes, numberPut};
+ghost use Rattle.fields.specs.Written.{littleBytes, numberBytes, numberPut};
 
 // The byte at a place.
 pub fn byte(s: &[u8], at: usize) -> u8
@@ -192,10 +192,10 @@ pub fn le_i64(s: &[u8], at: usize) -> i64
     signed8(le_u64(s, at))
 }
 
-// Writes the low w bytes of a number at a place, the lowest first, where they fit.
-fn put_bytes(out: &mut [u8], at: usize, w: usize, n: u64)
+// Writes the low w bytes of a number at a place, the lowest first.
+fn put_little_bytes(out: &mut [u8], at: usize, w: usize, n: u64)
     requires { ⌜ at + w ≤ length (now out) ⌝ }
-    ensures { λ _. ⌜ now (out .exit) ≡ writtenAt at (littleBytes w n) (now (out .entry)) ⌝ }
+    ensures { λ _. ⌜ now (out .exit) ≡ writtenAt at (numberBytes little w n) (now (out .entry)) ⌝ }
 {
     let mut rest = n;
     let mut j: usize = 0;
@@ -206,25 +206,61 @@ fn put_bytes(out: &mut [u8], at: usize, w: usize, n: u64)
     }
 }
 
-// Writes the low w bytes of a number at a place, or nothing where they do not fit.
-fn put(out: &mut [u8], at: usize, w: usize, n: u64)
-    ensures { λ _. ⌜ now (out .exit) ≡ numberPut w at n (now (out .entry)) ⌝ }
+// Writes the low w bytes of a number at a place, the highest first.
+fn put_big_bytes(out: &mut [u8], at: usize, w: usize, n: u64)
+    requires { ⌜ (at + w ≤ length (now out)) × (w ≤ 8) ⌝ }
+    ensures { λ _. ⌜ now (out .exit) ≡ writtenAt at (numberBytes big w n) (now (out .entry)) ⌝ }
 {
-    if fits(out.len(), at, w) {
-        put_bytes(out, at, w, n);
+    let mut j: usize = 0;
+    while j < w {
+        out[at + j] = ((n >> (8 * (w - (j + 1)))) % 256) as u8;
+        j += 1;
     }
 }
 
-// Writes a number's four bytes at a place, little-endian; nothing where they do not fit.
-pub fn put_u32(out: &mut [u8], at: usize, n: u32)
-    ensures { λ _. ⌜ now (out .exit) ≡ numberPut 4 at n (now (out .entry)) ⌝ }
+// Writes the low w bytes of a number at a place, little-endian, or nothing where they do not fit.
+fn put_little(out: &mut [u8], at: usize, w: usize, n: u64)
+    ensures { λ _. ⌜ now (out .exit) ≡ numberPut little w at n (now (out .entry)) ⌝ }
 {
-    put(out, at, 4, n as u64);
+    if fits(out.len(), at, w) {
+        put_little_bytes(out, at, w, n);
+    }
+}
+
+// Writes the low w bytes of a number at a place, big-endian, or nothing where they do not fit.
+fn put_big(out: &mut [u8], at: usize, w: usize, n: u64)
+    requires { ⌜ w ≤ 8 ⌝ }
+    ensures { λ _. ⌜ now (out .exit) ≡ numberPut big w at n (now (out .entry)) ⌝ }
+{
+    if fits(out.len(), at, w) {
+        put_big_bytes(out, at, w, n);
+    }
+}
+
+// Writes a number's four bytes at a place, big-endian; nothing where they do not fit.
+pub fn put_be_u32(out: &mut [u8], at: usize, n: u32)
+    ensures { λ _. ⌜ now (out .exit) ≡ numberPut big 4 at n (now (out .entry)) ⌝ }
+{
+    put_big(out, at, 4, n as u64);
+}
+
+// Writes a number's four bytes at a place, little-endian; nothing where they do not fit.
+pub fn put_le_u32(out: &mut [u8], at: usize, n: u32)
+    ensures { λ _. ⌜ now (out .exit) ≡ numberPut little 4 at n (now (out .entry)) ⌝ }
+{
+    put_little(out, at, 4, n as u64);
+}
+
+// Writes a number's eight bytes at a place, big-endian; nothing where they do not fit.
+pub fn put_be_u64(out: &mut [u8], at: usize, n: u64)
+    ensures { λ _. ⌜ now (out .exit) ≡ numberPut big 8 at n (now (out .entry)) ⌝ }
+{
+    put_big(out, at, 8, n);
 }
 
 // Writes a number's eight bytes at a place, little-endian; nothing where they do not fit.
-pub fn put_u64(out: &mut [u8], at: usize, n: u64)
-    ensures { λ _. ⌜ now (out .exit) ≡ numberPut 8 at n (now (out .entry)) ⌝ }
+pub fn put_le_u64(out: &mut [u8], at: usize, n: u64)
+    ensures { λ _. ⌜ now (out .exit) ≡ numberPut little 8 at n (now (out .entry)) ⌝ }
 {
-    put(out, at, 8, n);
+    put_little(out, at, 8, n);
 }

@@ -2,11 +2,11 @@
 use mathlib.Core.Path.{_≡_, refl, sym, ap, _∙_}
 use mathlib.Core.Bool.{Bool, true, false, and-false}
 use mathlib.Core.Logic.{⊎-elim}
-use mathlib.Core.List.{[], _∷_}
+use mathlib.Core.List.{[], _∷_, _++_, append-assoc, append-nil}
 use Prim.Native.Nat.{ℕ, zero, suc, _+_, _≤_, _<_, max}
 use native.Mathlib.Omega.{arith}
 use native.Mathlib.Numerals.{add-one}
-use native.Mathlib.Nat.{eq-or-lt-of-le, le-of-suc-le-suc, not-suc-le-zero, le-antisymm}
+use native.Mathlib.Nat.{eq-or-lt-of-le, le-of-suc-le-suc, not-suc-le-zero, le-antisymm, add-zero}
 use lib.ListN.{length, length-append, getD, List·getD-append}
 use lib.Seq.{getD-at}
 use Rattle.laws.specs.Places.{every, sumTo, largestTo, listTo}
@@ -69,6 +69,14 @@ module _ (f : ℕ → ℕ) where
       ⊎-elim (λ i. let e : f k ≡ f n = ap f i in omega arith) (λ l. let r : f k ≤ largestTo f n = largest-at n k l in omega arith)
       (eq-or-lt-of-le (le-of-suc-le-suc h))
 
+-- the largest below n and the largest of m more
+pub largest-join : (f : ℕ → ℕ) (n m : ℕ) → max (largestTo f n) (largestTo (λ k. f (n + k)) m) ≡ largestTo f (n + m)
+largest-join f n zero = rw (add-zero n) (omega arith)
+largest-join f n (suc m) =
+    let e : n + suc m ≡ suc (n + m) = omega arith in
+    let r = largest-join f n m in
+    rw e (omega arith)
+
 pub sum-same : (f g : ℕ → ℕ) (n : ℕ) → ((k : ℕ) → k < n → f k ≡ g k) → sumTo f n ≡ sumTo g n
 sum-same f g zero h = refl
 sum-same f g (suc n) h =
@@ -87,6 +95,13 @@ module _ {ℓ} {A : Type ℓ} (f : ℕ → A) where
   pub length-listTo : (n : ℕ) → length (listTo f n) ≡ n
   length-listTo zero = refl
   length-listTo (suc n) = rw (length-append, length-listTo n) (add-one n)
+
+  -- the list of m places more
+  pub listTo-append : (n m : ℕ) → listTo f (n + m) ≡ listTo f n ++ listTo (λ k. f (n + k)) m
+  listTo-append n zero = rw (add-zero n) (sym (append-nil (listTo f n)))
+  listTo-append n (suc m) =
+      let e : n + suc m ≡ suc (n + m) = omega arith in
+      rw (e, listTo-append n m) (append-assoc (listTo f n) (listTo (λ k. f (n + k)) m) (f (n + m) ∷ []))
 
   pub listTo-at : (n k : ℕ) (d : A) → k < n → getD (listTo f n) k d ≡ f k
   listTo-at zero k d h = absurd (not-suc-le-zero h)

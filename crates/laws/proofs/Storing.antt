@@ -1,16 +1,17 @@
 -- A loop that stores what f gives at one place after another; a list written into another, by place; and lists written at the start. Assumes nothing.
 use mathlib.Core.Path.{_≡_, sym, ap, _∙_}
 use mathlib.Core.List.{List, [], _∷_, _++_, append-assoc}
-use Prim.Native.Nat.{ℕ, _+_, _-_, _≤_, _<_}
+use Prim.Native.Nat.{ℕ, suc, _+_, _-_, _≤_, _<_}
 use native.Mathlib.Nat.{add-assoc, zero-add}
 use native.Mathlib.Numerals.{add-one}
 use native.Mathlib.Omega.{arith}
-use lib.ListN.{length, take, drop, getD, set, length-append, length-take, List·getD-append}
-use lib.Seq.{set-at, take-append-le, drop-append-le, drop-drop, paste-zero, getD-append-add, getD-take, getD-drop}
+use lib.ListN.{length, take, drop, getD, set, length-append, length-take, take-append-drop, List·getD-append}
+use lib.Seq.{set-at, set-split, append-snoc, take-at, drop-at, length-take-le}
+use lib.Seq.{take-append-le, drop-append-le, drop-drop, paste-zero, getD-append-add, getD-take, getD-drop}
 use Rattle.laws.specs.Places.{listTo}
 use Rattle.laws.specs.Writing.{writtenAt}
 use Rattle.laws.proofs.Places.{length-listTo}
-use Rattle.laws.proofs.Writing.{drop-step, paste-whole}
+use Rattle.laws.proofs.Writing.{drop-step, length-written, paste-whole}
 
 -- nothing stored yet
 pub store-none : (f : ℕ → ℕ) (p : ℕ) (d : List ℕ) → d ≡ writtenAt p (listTo f 0) d
@@ -48,6 +49,26 @@ written-append p new a b h =
 -- a list written at the start
 pub written-start : (new old : List ℕ) → writtenAt 0 new old ≡ new ++ drop (length new) old
 written-start new old = rw zero-add
+
+-- one element stored is a list of one written
+pub set-written : (d : List ℕ) (i x : ℕ) → i < length d → set d i x ≡ writtenAt i (x ∷ []) d
+set-written d i x h = set-split d i x h ∙ sym (append-snoc (take i d) x (drop (suc i) d)) ∙ ap (λ (n : ℕ). (take i d ++ (x ∷ [])) ++ drop n d) (sym (add-one i))
+
+-- lists written at places that do not meet, in either order
+pub written-apart : (p q : ℕ) (xs ys old : List ℕ) → p + length xs ≤ q → q + length ys ≤ length old
+    → writtenAt p xs (writtenAt q ys old) ≡ writtenAt q ys (writtenAt p xs old)
+written-apart p q xs ys old h l =
+    let t : length (take q old) ≡ q = length-take-le q old (omega arith) in
+    let F = writtenAt p xs (take q old) in
+    let n : length F ≡ q = length-written p xs (take q old) (omega arith) ∙ t in
+    let a : writtenAt p xs old ≡ F ++ drop q old =
+    ap (writtenAt p xs) (sym (take-append-drop q old)) ∙ written-append p xs (take q old) (drop q old) (omega arith) in
+    let b : drop (q + length ys) (F ++ drop q old) ≡ drop (q + length ys) old =
+    sym (drop-drop (length ys) q (F ++ drop q old)) ∙ ap (drop (length ys)) (drop-at F (drop q old) q n) ∙ drop-drop (length ys) q old in
+    ap (writtenAt p xs) (append-assoc (take q old) ys (drop (q + length ys) old))
+    ∙ written-append p xs (take q old) (ys ++ drop (q + length ys) old) (omega arith)
+    ∙ sym (append-assoc F ys (drop (q + length ys) old))
+    ∙ sym (rw (a, take-at F (drop q old) q n, b))
 
 -- a list written at the start of what is behind a place
 pub written-behind : (place : ℕ) (new old : List ℕ) → take place old ++ writtenAt 0 new (drop place old) ≡ writtenAt place new old

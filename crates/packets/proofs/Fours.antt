@@ -16,6 +16,7 @@ use Rattle.laws.proofs.Numbers.{digits-low}
 use Rattle.laws.proofs.Places.{every-at}
 use Rattle.laws.proofs.Tests.{both-pass}
 use Rattle.laws.proofs.Writing.{length-written, written-over}
+use Rattle.fields.specs.Number.{little}
 use Rattle.fields.specs.Written.{littleBytes, numberPut}
 use Rattle.fields.proofs.Laws.{put-fits, length-little}
 
@@ -78,34 +79,35 @@ over i j p q e = ap (λ (l : List ℕ). l ++ digits 2 4 p) (take-digits 2 i j q 
 module _ (at : ℕ) (out : List ℕ) where
   -- four bytes over the end of what was written, from its element i on
   put-over : (i n p : ℕ) (xs : List ℕ) → littleBytes 4 n ≡ digits 2 4 (p % 256) → i ≤ length xs → length xs ≤ i + 4 → at + i + 4 ≤ length out
-      → numberPut 4 (at + i) n (writtenAt at xs out) ≡ writtenAt at (take i xs ++ digits 2 4 p) out
+      → numberPut little 4 (at + i) n (writtenAt at xs out) ≡ writtenAt at (take i xs ++ digits 2 4 p) out
   put-over i n p xs e h l r =
       let b = length-little 4 n in
       let w : length (writtenAt at xs out) ≡ length out = length-written at xs out (omega arith) in
-      put-fits 4 (at + i) n (writtenAt at xs out) (omega arith)
+      put-fits little 4 (at + i) n (writtenAt at xs out) (omega arith)
       ∙ written-over at i xs (littleBytes 4 n) out h (omega arith) (omega arith)
       ∙ ap (λ (l : List ℕ). writtenAt at (take i xs ++ l) out) (e ∙ digits-low 2 4 p)
 
   -- The fifteen codes: twelve, and then the last four, of which the first was there.
   pub fours-written : (p a b c d : ℕ) → at + 15 ≤ length out → littleBytes 4 a ≡ digits 2 4 (p / 4194304 % 256) → littleBytes 4 b ≡ digits 2 4 (p / 16384 % 256)
       → littleBytes 4 c ≡ digits 2 4 (p / 64 % 256) → littleBytes 4 d ≡ digits 2 4 (p % 256)
-      → numberPut 4 (at + 11) d (numberPut 4 (at + 8) c (numberPut 4 (at + 4) b (numberPut 4 at a out))) ≡ writtenAt at (digits 2 15 p) out
+      → numberPut little 4 (at + 11) d (numberPut little 4 (at + 8) c (numberPut little 4 (at + 4) b (numberPut little 4 at a out)))
+      ≡ writtenAt at (digits 2 15 p) out
   fours-written p a b c d h ea eb ec ed =
       let q = p / 4194304 in
       let s = p / 16384 in
       let t = p / 64 in
-      let first : numberPut 4 at a out ≡ writtenAt at (digits 2 4 q) out =
-      put-fits 4 at a out (omega arith) ∙ ap (λ (l : List ℕ). writtenAt at l out) (ea ∙ digits-low 2 4 q) in
-      let eight : numberPut 4 (at + 4) b (writtenAt at (digits 2 4 q) out) ≡ writtenAt at (digits 2 8 s) out =
+      let first : numberPut little 4 at a out ≡ writtenAt at (digits 2 4 q) out =
+      put-fits little 4 at a out (omega arith) ∙ ap (λ (l : List ℕ). writtenAt at l out) (ea ∙ digits-low 2 4 q) in
+      let eight : numberPut little 4 (at + 4) b (writtenAt at (digits 2 4 q) out) ≡ writtenAt at (digits 2 8 s) out =
       put-over 4 b s (digits 2 4 q) eb (omega (arith, length-digits 2 4 q)) (omega (arith, length-digits 2 4 q)) (omega arith)
       ∙ ap (λ (l : List ℕ). writtenAt at l out) (over 4 0 s q (omega arith)) in
-      let twelve : numberPut 4 (at + 8) c (writtenAt at (digits 2 8 s) out) ≡ writtenAt at (digits 2 12 t) out =
+      let twelve : numberPut little 4 (at + 8) c (writtenAt at (digits 2 8 s) out) ≡ writtenAt at (digits 2 12 t) out =
       put-over 8 c t (digits 2 8 s) ec (omega (arith, length-digits 2 8 s)) (omega (arith, length-digits 2 8 s)) (omega arith)
       ∙ ap (λ (l : List ℕ). writtenAt at l out) (over 8 0 t s (omega arith)) in
-      let all : numberPut 4 (at + 11) d (writtenAt at (digits 2 12 t) out) ≡ writtenAt at (digits 2 15 p) out =
+      let all : numberPut little 4 (at + 11) d (writtenAt at (digits 2 12 t) out) ≡ writtenAt at (digits 2 15 p) out =
       put-over 11 d p (digits 2 12 t) ed (omega (arith, length-digits 2 12 t)) (omega (arith, length-digits 2 12 t)) (omega arith)
       ∙ ap (λ (l : List ℕ). writtenAt at l out) (over 11 1 p t (omega arith)) in
-      ap (λ (l : List ℕ). numberPut 4 (at + 11) d (numberPut 4 (at + 8) c (numberPut 4 (at + 4) b l))) first
-      ∙ ap (λ (l : List ℕ). numberPut 4 (at + 11) d (numberPut 4 (at + 8) c l)) eight
-      ∙ ap (λ (l : List ℕ). numberPut 4 (at + 11) d l) twelve
+      ap (λ (l : List ℕ). numberPut little 4 (at + 11) d (numberPut little 4 (at + 8) c (numberPut little 4 (at + 4) b l))) first
+      ∙ ap (λ (l : List ℕ). numberPut little 4 (at + 11) d (numberPut little 4 (at + 8) c l)) eight
+      ∙ ap (λ (l : List ℕ). numberPut little 4 (at + 11) d l) twelve
       ∙ all

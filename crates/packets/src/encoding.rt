@@ -3,41 +3,17 @@ use crate::Next;
 use crate::TwoBit;
 ghost use mathlib.Core.Path.{_≡_};
 ghost use mathlib.Core.Bool.{true};
-ghost use Prim.Native.Nat.{_+_, _*_, _/_, _^_, _%_, _≤_, _<_, max};
+ghost use Prim.Native.Nat.{_+_, _*_, _/_, _^_, _%_, _≤_, _<_};
 ghost use lib.Dec.{leb};
 ghost use lib.ListN.{length, getD};
-ghost use Rattle.laws.specs.Places.{largestTo};
 ghost use Rattle.residues.specs.Alphabets.{validCodes};
 ghost use Rattle.packets.specs.Packing.{sixes, fourFrom, plain, isTwoBit, sizeOf, twoBitPart, nextTwoBit, fiveBitPart, endBit, packetOf};
-
-// The larger of two codes.
-fn larger(a: u8, b: u8) -> u8
-    ensures { λ r. ⌜ r ≡ max a b ⌝ }
-{
-    if a < b {
-        return b;
-    }
-    a
-}
-
-// The largest of some codes; 0 where there is none.
-fn largest(codes: &[u8]) -> u8
-    ensures { λ r. ⌜ r ≡ largestTo (λ k. getD (now (codes .entry)) k 0) (length (now (codes .entry))) ⌝ }
-{
-    let mut most: u8 = 0;
-    let mut i: usize = 0;
-    while i < codes.len() {
-        most = larger(most, codes[i]);
-        i += 1;
-    }
-    most
-}
 
 // Whether every code of a sequence is valid in its alphabet.
 pub fn valid_codes(alphabet: u32, codes: &[u8]) -> bool
     ensures { λ r. ⌜ r ≡ validCodes alphabet (now (codes .entry)) ⌝ }
 {
-    largest(codes) < residues::code_limit(alphabet)
+    residues::largest_code(codes) < residues::code_limit(alphabet)
 }
 
 // How many packets take all residues where each takes six.

@@ -203,10 +203,10 @@ fn put_two(packet: u32, out: &mut [u8], at: usize)
     requires { ⌜ at + 15 ≤ length (now out) ⌝ }
     ensures { λ _. ⌜ now (out .exit) ≡ writtenAt at (digits 2 15 packet) (now (out .entry)) ⌝ }
 {
-    fields::put_u32(out, at, four_codes((packet >> 22) % 256));
-    fields::put_u32(out, at + 4, four_codes((packet >> 14) % 256));
-    fields::put_u32(out, at + 8, four_codes((packet >> 6) % 256));
-    fields::put_u32(out, at + 11, four_codes(packet % 256));
+    fields::put_le_u32(out, at, four_codes((packet >> 22) % 256));
+    fields::put_le_u32(out, at + 4, four_codes((packet >> 14) % 256));
+    fields::put_le_u32(out, at + 8, four_codes((packet >> 6) % 256));
+    fields::put_le_u32(out, at + 11, four_codes(packet % 256));
 }
 
 // Writes the first 5-bit codes of a packet from a place on.

@@ -34,9 +34,17 @@ abbrev pub proteinCodes : List ℕ
 proteinCodes =
     20 ∷ 0 ∷ 21 ∷ 1 ∷ 2 ∷ 3 ∷ 4 ∷ 5 ∷ 6 ∷ 7 ∷ 8 ∷ 9 ∷ 10 ∷ 11 ∷ 12 ∷ 13 ∷ 14 ∷ 15 ∷ 16 ∷ 17 ∷ 18 ∷ 26 ∷ 19 ∷ 23 ∷ 25 ∷ 27 ∷ 24 ∷ 22 ∷ []
 
+-- The ambiguity values that become the nucleic codes 0 to 15: the table above, read back.
+abbrev pub ambiguityValues : List ℕ
+ambiguityValues = 1 ∷ 2 ∷ 4 ∷ 8 ∷ 0 ∷ 5 ∷ 10 ∷ 3 ∷ 12 ∷ 6 ∷ 9 ∷ 11 ∷ 14 ∷ 7 ∷ 13 ∷ 15 ∷ []
+
 -- The Easel code of an ambiguity value and of a protein value; 0 for a number that is no such value.
 abbrev pub ambiguityCode : ℕ → ℕ
 ambiguityCode v = getD ambiguityCodes v 0
 
 abbrev pub proteinCode : ℕ → ℕ
 proteinCode v = getD proteinCodes v 0
+
+-- The ambiguity value of a nucleic code; 0 for a number that is no such code.
+abbrev pub ambiguityValue : ℕ → ℕ
+ambiguityValue code = getD ambiguityValues code 0

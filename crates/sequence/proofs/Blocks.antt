@@ -2,10 +2,10 @@
 -- Assumes nothing.
 use mathlib.Core.Path.{_≡_, refl, sym, ap, _∙_}
 use mathlib.Core.Bool.{Bool, true}
-use mathlib.Core.List.{List, [], _∷_, _++_, append-assoc, append-nil}
+use mathlib.Core.List.{List, [], _∷_, _++_, append-nil}
 use mathlib.Core.Logic.{⊎-elim}
 use Prim.Native.Nat.{ℕ, zero, suc, _+_, _-_, _≤_, _<_}
-use native.Mathlib.Nat.{add-zero, zero-add, add-suc, eq-or-lt-of-le, le-of-suc-le-suc}
+use native.Mathlib.Nat.{zero-add, eq-or-lt-of-le, le-of-suc-le-suc}
 use native.Mathlib.Omega.{arith}
 use borrow.Author.Tests.{eqb-true}
 use lib.Dec.{eqb}
@@ -13,7 +13,7 @@ use lib.ListN.{length, take, drop, set}
 use lib.Seq.{take-append-le, take-length, drop-length}
 use Rattle.laws.specs.Places.{every, listTo}
 use Rattle.laws.specs.Writing.{writtenAt}
-use Rattle.laws.proofs.Places.{every-at, length-listTo}
+use Rattle.laws.proofs.Places.{every-at, length-listTo, listTo-append}
 use Rattle.laws.proofs.Storing.{store-front, written-start}
 use Rattle.laws.proofs.Writing.{written-again, written-over}
 use Rattle.residues.specs.Tables.{proteinCode}
@@ -44,13 +44,6 @@ module _ (f : ℕ → ℕ) where
       (λ l. take-append-le k (listTo f n) (f n ∷ []) (rw (length-listTo f n) (le-of-suc-le-suc l)) ∙ take-listTo k n (le-of-suc-le-suc l))
       (eq-or-lt-of-le h)
 
-  -- a list and what follows it
-  listTo-append : (k n : ℕ) → listTo f k ++ listTo (λ i. f (k + i)) n ≡ listTo f (k + n)
-  listTo-append k zero = rw add-zero (append-nil (listTo f k))
-  listTo-append k (suc n) =
-      rw add-suc (sym (append-assoc (listTo f k) (listTo (λ i. f (k + i)) n) (f (k + n) ∷ []))
-      ∙ ap (λ (l : List ℕ). l ++ (f (k + n) ∷ [])) (listTo-append k n))
-
   -- the next one stored in a list that begins with those before
   pub begins-next : (n x : ℕ) (c : List ℕ) → n < length c → x ≡ f n → c ≡ writtenAt 0 (listTo f n) c
       → set c n x ≡ writtenAt 0 (listTo f (n + 1)) (set c n x)
@@ -74,7 +67,7 @@ module _ (f : ℕ → ℕ) where
       let y = length-listTo (λ i. f (k + i)) n in
       written-over p k (listTo f m) (listTo (λ i. f (k + i)) n) d (omega arith) (omega arith) (omega arith)
       ∙ ap (λ (l : List ℕ). writtenAt p (l ++ listTo (λ i. f (k + i)) n) d) (take-listTo k m a)
-      ∙ ap (λ (l : List ℕ). writtenAt p l d) (listTo-append k n)
+      ∙ ap (λ (l : List ℕ). writtenAt p l d) (sym (listTo-append f k n))
 
   -- the same from the front, for an output as a call left it
   pub block-stored : (k m n t : ℕ) (d before after : List ℕ) → before ≡ writtenAt 0 (listTo f m) d → after ≡ writtenAt k (listTo (λ i. f (k + i)) n) before

@@ -1,10 +1,9 @@
 -- Corrections made one after another: what stands at each place afterwards. Assumes nothing.
 use mathlib.Core.Path.{_≡_, refl, ap, _∙_}
 use mathlib.Core.Bool.{true, false, cond}
-use mathlib.Core.List.{List, _++_}
-use mathlib.Core.Logic.{⊎-elim}
+use mathlib.Core.List.{List, [], _∷_, _++_}
 use Prim.Native.Nat.{ℕ, zero, suc, _+_, _-_, _≤_, _<_}
-use native.Mathlib.Nat.{eq-or-lt-of-le, le-of-suc-le-suc, not-suc-le-zero}
+use native.Mathlib.Nat.{not-suc-le-zero}
 use native.Mathlib.Numerals.{add-one}
 use native.Mathlib.Omega.{arith}
 use lib.Dec.{leb, ltb}
@@ -19,11 +18,11 @@ use Rattle.laws.proofs.Tests.{bool-cases, both-pass}
 use Rattle.laws.proofs.Writing.{length-written}
 use Rattle.residues.specs.Tables.{ambiguityCode}
 use Rattle.sequence.specs.declared.Correction.{Correction}
-use Rattle.sequence.specs.Corrections.{correctionAt, correctionEnd, painted, corrected, covers, correctedAt}
-use Rattle.sequence.specs.Corrections.{entryFits, entryWidth, entryCount, rangeRules}
+use Rattle.sequence.specs.Corrections.{correctionAt, correctionEnd, correctionsAt, rangeCorrections, painted, corrected, covers, correctedAt}
+use Rattle.sequence.specs.Corrections.{correctionIn, Apart, EndWithin, entryFits, entryWidth, entryCount, rangeRules}
 use Rattle.sequence.specs.Bases.{baseAt, twoBitResidues}
 use Rattle.sequence.specs.Sequence.{dnaResidues}
-use Rattle.sequence.proofs.Ranges.{ends-within, starts-after, table-ends}
+use Rattle.sequence.proofs.Ranges.{ends-within, starts-after}
 
 -- ---- one correction
 
@@ -56,83 +55,99 @@ module _ (c : Correction) (residues : List ℕ) (h : correctionEnd c ≤ length 
 
 -- ---- all corrections
 
-module _ (sequence : List ℕ) (entries w : ℕ) where
-  -- each of the first n corrections ends within l
-  abbrev EndWithin : ℕ → ℕ → Type 0
-  EndWithin n l = (j : ℕ) → j < n → correctionEnd (correctionAt sequence entries w j) ≤ l
+-- the corrections behind the first are apart, and end within l
+apart-rest : (c : Correction) (cs : List Correction) → Apart (c ∷ cs) → Apart cs
+apart-rest c cs h j i = h (suc j) (omega arith)
 
-  -- one correction more
-  pub corrected-next : (n : ℕ) (residues out : List ℕ) (c : Correction) (code : ℕ) → out ≡ corrected sequence entries w n residues
+within-rest : (c : Correction) (cs : List Correction) (l : ℕ) → EndWithin (c ∷ cs) l → EndWithin cs l
+within-rest c cs l h j i = h (suc j) (omega arith)
+
+-- the last is painted last
+corrected-last : (cs : List Correction) (c : Correction) (residues : List ℕ) → corrected (cs ++ (c ∷ [])) residues ≡ painted c (corrected cs residues)
+corrected-last [] c residues = refl
+corrected-last (x ∷ cs) c residues = corrected-last cs c (painted x residues)
+
+-- what is left to paint fits the residues that the first was painted over
+within-painted : (c : Correction) (cs : List Correction) (residues : List ℕ) → EndWithin (c ∷ cs) (length residues) → EndWithin cs (length (painted c residues))
+within-painted c cs residues h = rw (length-painted c residues (h 0 (omega arith))) (within-rest c cs (length residues) h)
+
+-- there are as many residues as before
+pub length-corrected : (cs : List Correction) (residues : List ℕ) → EndWithin cs (length residues) → length (corrected cs residues) ≡ length residues
+length-corrected [] residues h = refl
+length-corrected (c ∷ cs) residues h =
+    length-corrected cs (painted c residues) (within-painted c cs residues h) ∙ length-painted c residues (h 0 (omega arith))
+
+-- what follows the residues stays
+corrected-append : (cs : List Correction) (residues more : List ℕ) → EndWithin cs (length residues)
+    → corrected cs (residues ++ more) ≡ corrected cs residues ++ more
+corrected-append [] residues more h = refl
+corrected-append (c ∷ cs) residues more h =
+    rw (painted-append c residues (h 0 (omega arith)) more) (corrected-append cs (painted c residues) more (within-painted c cs residues h))
+
+corrected-start : (cs : List Correction) (residues out : List ℕ) → EndWithin cs (length residues)
+    → corrected cs (writtenAt 0 residues out) ≡ writtenAt 0 (corrected cs residues) out
+corrected-start cs residues out h =
+    rw (written-start residues out, written-start (corrected cs residues) out, length-corrected cs residues h)
+    (corrected-append cs residues (drop (length residues) out) h)
+
+-- the residue at a place, by position
+pub corrected-at : (cs : List Correction) (residues : List ℕ) → EndWithin cs (length residues) → (k d : ℕ)
+    → getD (corrected cs residues) k d ≡ correctedAt cs k (getD residues k d)
+corrected-at [] residues h k d = refl
+corrected-at (c ∷ cs) residues h k d =
+    corrected-at cs (painted c residues) (within-painted c cs residues h) k d
+    ∙ ap (correctedAt cs k) (painted-at c residues (h 0 (omega arith)) k d)
+
+-- ---- the correction that covers a place: where they are apart there is one at most
+
+-- corrections from a later place on leave a place its base
+later-at : (cs : List Correction) (k low base : ℕ) → Apart cs → (0 < length cs → low ≤ correctionIn cs 0 .start) → k < low → correctedAt cs k base ≡ base
+later-at [] k low base h f i = refl
+later-at (c ∷ cs) k low base h f i =
+    let a = f (omega arith) in
+    rw (lt-leb (c .start) k (omega arith)) (later-at cs k low base (apart-rest c cs h) (λ n. let b = h 0 (omega arith) in omega arith) i)
+
+-- a place that a correction covers has that correction's code
+pub covered-at : (cs : List Correction) (k base j : ℕ) → Apart cs → j < length cs → covers (correctionIn cs j) k ≡ true
+    → correctedAt cs k base ≡ ambiguityCode (correctionIn cs j .value)
+covered-at [] k base j h i t = absurd (not-suc-le-zero i)
+covered-at (c ∷ cs) k base zero h i t =
+    let p = both-pass (leb (c .start) k) (ltb k (correctionEnd c)) t in
+    rw t (later-at cs k (correctionEnd c) (ambiguityCode (c .value)) (apart-rest c cs h) (λ n. h 0 (omega arith)) (ltb-true k (correctionEnd c) (p .1)))
+covered-at (c ∷ cs) k base (suc j) h i t = covered-at cs k _ j (apart-rest c cs h) (omega arith) t
+
+-- a place that none covers has its base
+pub not-covered-at : (cs : List Correction) (k base : ℕ) → ((j : ℕ) → j < length cs → covers (correctionIn cs j) k ≡ false) → correctedAt cs k base ≡ base
+not-covered-at [] k base h = refl
+not-covered-at (c ∷ cs) k base h = rw (h 0 (omega arith)) (not-covered-at cs k base (λ j i. h (suc j) (omega arith)))
+
+-- ---- a file's entries are such a list
+
+module _ (sequence : List ℕ) (entries w n : ℕ) where
+  pub count-stated : length (correctionsAt sequence entries w n) ≡ n
+  count-stated = length-listTo (correctionAt sequence entries w) n
+
+  pub entry-stated : (j : ℕ) → j < n → correctionIn (correctionsAt sequence entries w n) j ≡ correctionAt sequence entries w j
+  entry-stated j i = listTo-at (correctionAt sequence entries w) n j _ i
+
+  -- one entry more
+  pub corrected-next : (residues out : List ℕ) (c : Correction) (code : ℕ) → out ≡ corrected (correctionsAt sequence entries w n) residues
       → c ≡ correctionAt sequence entries w n → code ≡ ambiguityCode (c .value)
-      → writtenAt (c .start) (listTo (λ (k : ℕ). code) (c .length)) out ≡ corrected sequence entries w (n + 1) residues
-  corrected-next n residues out c code e f g =
-      rw (add-one, e, g) (ap (λ (x : Correction). painted x (corrected sequence entries w n residues)) f)
+      → writtenAt (c .start) (listTo (λ (k : ℕ). code) (c .length)) out ≡ corrected (correctionsAt sequence entries w (n + 1)) residues
+  corrected-next residues out c code e f g =
+      rw (add-one, corrected-last (correctionsAt sequence entries w n) (correctionAt sequence entries w n) residues, e, g)
+      (ap (λ (x : Correction). painted x (corrected (correctionsAt sequence entries w n) residues)) f)
 
-  -- there are as many residues as before
-  pub length-corrected : (n : ℕ) (residues : List ℕ) → EndWithin n (length residues) → length (corrected sequence entries w n residues) ≡ length residues
-  length-corrected zero residues h = refl
-  length-corrected (suc n) residues h =
-      let e = length-corrected n residues (λ j l. h j (omega arith)) in
-      length-painted (correctionAt sequence entries w n) (corrected sequence entries w n residues) (rw e (h n (omega arith))) ∙ e
+  module _ (l : ℕ) (e : every (entryFits sequence entries w l) n ≡ true) where
+    pub stated-within : EndWithin (correctionsAt sequence entries w n) l
+    stated-within j h =
+        let i : j < n = omega (arith, count-stated) in
+        rw (entry-stated j i) (ends-within sequence entries w l n e j i)
 
-  -- what follows the residues stays
-  corrected-append : (n : ℕ) (residues more : List ℕ) → EndWithin n (length residues)
-      → corrected sequence entries w n (residues ++ more) ≡ corrected sequence entries w n residues ++ more
-  corrected-append zero residues more h = refl
-  corrected-append (suc n) residues more h =
-      let e = length-corrected n residues (λ j l. h j (omega arith)) in
-      rw (corrected-append n residues more (λ j l. h j (omega arith)))
-      (painted-append (correctionAt sequence entries w n) (corrected sequence entries w n residues) (rw e (h n (omega arith))) more)
-
-  corrected-start : (n : ℕ) (residues out : List ℕ) → EndWithin n (length residues)
-      → corrected sequence entries w n (writtenAt 0 residues out) ≡ writtenAt 0 (corrected sequence entries w n residues) out
-  corrected-start n residues out h =
-      rw (written-start residues out, written-start (corrected sequence entries w n residues) out, length-corrected n residues h)
-      (corrected-append n residues (drop (length residues) out) h)
-
-  -- the residue at a place, by position
-  pub corrected-at : (n : ℕ) (residues : List ℕ) → every (entryFits sequence entries w (length residues)) n ≡ true → (k d : ℕ)
-      → getD (corrected sequence entries w n residues) k d ≡ correctedAt sequence entries w n k (getD residues k d)
-  corrected-at zero residues e k d = refl
-  corrected-at (suc n) residues e k d =
-      let c = correctionAt sequence entries w n in
-      let p = both-pass (every (entryFits sequence entries w (length residues)) n) (entryFits sequence entries w (length residues) n) e in
-      let h : EndWithin (suc n) (length residues) = ends-within sequence entries w (length residues) (suc n) e in
-      let m = length-corrected n residues (λ j i. h j (omega arith)) in
-      painted-at c (corrected sequence entries w n residues) (rw m (h n (omega arith))) k d
-      ∙ ap (λ (x : ℕ). cond (covers c k) (ambiguityCode (c .value)) x) (corrected-at n residues (p .0) k d)
-
--- ---- the entry that covers a place: entries that fit do not overlap, so there is one at most
-
-module _ (sequence : List ℕ) (entries w l : ℕ) where
-  pub entries-apart : (n i j : ℕ) → every (entryFits sequence entries w l) n ≡ true → j < i → i < n
-      → correctionEnd (correctionAt sequence entries w j) ≤ correctionAt sequence entries w i .start
-  entries-apart n zero j e h g = absurd (not-suc-le-zero h)
-  entries-apart n (suc i) j e h g =
-      let a : correctionEnd (correctionAt sequence entries w i) ≤ correctionAt sequence entries w (suc i) .start =
-      starts-after sequence entries w l n e (suc i) g in
-      ⊎-elim (λ x. rw x a) (λ x. let b = entries-apart n i j e x (omega arith) in omega arith) (eq-or-lt-of-le (le-of-suc-le-suc h))
-
-  -- a place that an entry covers has that entry's code
-  pub covered-at : (n k base j : ℕ) → every (entryFits sequence entries w l) n ≡ true → j < n → covers (correctionAt sequence entries w j) k ≡ true
-      → correctedAt sequence entries w n k base ≡ ambiguityCode (correctionAt sequence entries w j .value)
-  covered-at zero k base j e h f = absurd (not-suc-le-zero h)
-  covered-at (suc n) k base j e h f =
-      let p = both-pass (every (entryFits sequence entries w l) n) (entryFits sequence entries w l n) e in
-      let c = correctionAt sequence entries w j in
-      let q = both-pass (leb (c .start) k) (ltb k (correctionEnd c)) f in
-      ⊎-elim (λ x. rw (← x, f))
-      (λ x. let a = entries-apart (suc n) n j e x (omega arith) in
-      let b : k < correctionAt sequence entries w n .start = omega (arith, ltb-true k (correctionEnd c) (q .1)) in
-      rw (lt-leb (correctionAt sequence entries w n .start) k b) (covered-at n k base j (p .0) x f))
-      (eq-or-lt-of-le (le-of-suc-le-suc h))
-
--- a place that no entry covers has its base
-pub not-covered-at : (sequence : List ℕ) (entries w n k base : ℕ) → ((j : ℕ) → j < n → covers (correctionAt sequence entries w j) k ≡ false)
-    → correctedAt sequence entries w n k base ≡ base
-not-covered-at sequence entries w zero k base h = refl
-not-covered-at sequence entries w (suc n) k base h =
-    rw (h n (omega arith)) (not-covered-at sequence entries w n k base (λ j l. h j (omega arith)))
+    pub stated-apart : Apart (correctionsAt sequence entries w n)
+    stated-apart j h =
+        let i : suc j < n = omega (arith, count-stated) in
+        rw (entry-stated j (omega arith), entry-stated (suc j) i) (starts-after sequence entries w l n e (suc j) i)
 
 -- ---- the residues of a sequence whose ambiguity range keeps its rules
 
@@ -140,32 +155,23 @@ module _ (sequence : List ℕ) (start place end l : ℕ) (h : AllHold (rangeRule
   length-bases : length (twoBitResidues sequence start l) ≡ l
   length-bases = length-listTo (baseAt sequence start) l
 
-  ends-fit : (w n : ℕ) → w ≡ entryWidth sequence place → n ≡ entryCount sequence place end
-      → EndWithin sequence (place + 4) w n (length (twoBitResidues sequence start l))
-  ends-fit w n e f j i = rw length-bases (table-ends sequence place end l w n h e f j i)
+  ends-fit : EndWithin (rangeCorrections sequence place end) (length (twoBitResidues sequence start l))
+  ends-fit = rw length-bases (stated-within sequence (place + 4) (entryWidth sequence place) (entryCount sequence place end) l (h .1 .0))
 
   -- the bases written, and then the corrections over them
   pub residues-written : (w n : ℕ) (old bases out : List ℕ) → w ≡ entryWidth sequence place → n ≡ entryCount sequence place end
-      → bases ≡ writtenAt 0 (twoBitResidues sequence start l) old → out ≡ corrected sequence (place + 4) w n bases
+      → bases ≡ writtenAt 0 (twoBitResidues sequence start l) old → out ≡ corrected (correctionsAt sequence (place + 4) w n) bases
       → out ≡ writtenAt 0 (dnaResidues sequence start place end l) old
   residues-written w n old bases out e f b o =
       o
-      ∙ ap (λ (x : List ℕ). corrected sequence (place + 4) w n x) b
-      ∙ corrected-start sequence (place + 4) w n (twoBitResidues sequence start l) old (ends-fit w n e f)
-      ∙ rw (e, f)
+      ∙ rw (e, f, b)
+      (corrected-start (rangeCorrections sequence place end) (twoBitResidues sequence start l) old ends-fit)
 
   pub length-residues : length (dnaResidues sequence start place end l) ≡ l
-  length-residues =
-      length-corrected sequence (place + 4) (entryWidth sequence place) (entryCount sequence place end) (twoBitResidues sequence start l)
-      (ends-fit (entryWidth sequence place) (entryCount sequence place end) refl refl)
-      ∙ length-bases
+  length-residues = length-corrected (rangeCorrections sequence place end) (twoBitResidues sequence start l) ends-fit ∙ length-bases
 
   pub residue-at : (k d : ℕ) → k < l
-      → getD (dnaResidues sequence start place end l) k d
-      ≡ correctedAt sequence (place + 4) (entryWidth sequence place) (entryCount sequence place end) k (baseAt sequence start k)
+      → getD (dnaResidues sequence start place end l) k d ≡ correctedAt (rangeCorrections sequence place end) k (baseAt sequence start k)
   residue-at k d i =
-      let w = entryWidth sequence place in
-      let n = entryCount sequence place end in
-      let e : every (entryFits sequence (place + 4) w (length (twoBitResidues sequence start l))) n ≡ true = rw length-bases (h .1 .0) in
-      corrected-at sequence (place + 4) w n (twoBitResidues sequence start l) e k d
-      ∙ ap (λ (x : ℕ). correctedAt sequence (place + 4) w n k x) (listTo-at (baseAt sequence start) l k d i)
+      corrected-at (rangeCorrections sequence place end) (twoBitResidues sequence start l) ends-fit k d
+      ∙ ap (correctedAt (rangeCorrections sequence place end) k) (listTo-at (baseAt sequence start) l k d i)

@@ -1,7 +1,7 @@
 -- Decoding answers 0 exactly where document 01's rules of one sequence hold, as plain statements (specs/Holds.antt).
 -- Each rule of the list is one statement; the residues of a sequence of which they hold, in the same words.
 -- Assumes nothing.
-use mathlib.Core.Path.{_≡_, refl, sym, ap, subst}
+use mathlib.Core.Path.{_≡_, refl, sym, ap, subst, _∙_}
 use mathlib.Core.Bool.{Bool, true, false, cond, not, _&&_, and-false}
 use mathlib.Core.List.{List, [], _∷_, _++_}
 use mathlib.Core.Logic.{_⊎_, ⊎-elim}
@@ -10,7 +10,7 @@ use native.Mathlib.Omega.{arith}
 use borrow.Author.Tests.{leb-true, le-leb, lt-leb, ltb-true, lt-ltb, le-ltb, eqb-true, eq-eqb}
 use lib.Dec.{leb, ltb, eqb}
 use lib.IntN.{pos}
-use lib.ListN.{getD}
+use lib.ListN.{length, getD}
 use Rattle.laws.specs.Digits.{digits}
 use Rattle.laws.specs.Places.{every}
 use Rattle.laws.specs.Rules.{Rule, verdict, AllHold}
@@ -27,17 +27,18 @@ use Rattle.volume.specs.Index.{statedType, sequences, indexRules, readRules}
 use Rattle.volume.specs.Tables.{sequenceStart, dnaEnd, proteinLength, dnaLength, sequenceLength}
 use Rattle.volume.proofs.Named.{index-tests, index-tests-back}
 use Rattle.volume.proofs.Exact.{protein-type, dna-type, fields-of, fields-test}
+use Rattle.sequence.specs.declared.Correction.{Correction}
 use Rattle.sequence.specs.declared.DecodeAnswer.the-variants.{Decoded, Refused}
 use Rattle.sequence.specs.Bases.{basesOf, baseAt}
 use Rattle.sequence.specs.Corrections.{entryWidth, entryCount, correctionAt, correctionEnd, endBefore, entryFits, rangeRules}
-use Rattle.sequence.specs.Corrections.{covers, correctedAt}
+use Rattle.sequence.specs.Corrections.{correctionsAt, rangeCorrections, correctionIn, covers, correctedAt}
 use Rattle.sequence.specs.Sequence.{rangeEnd, isProteinByte, proteinEntryRules, proteinByteRules, proteinRules, dnaEntryRules, dnaRules}
 use Rattle.sequence.specs.Sequence.{sequenceRules, roomRules, ownRules, decodeRules, decodeAnswer, decodeNumber}
 use Rattle.sequence.specs.Holds.{HasEntries, RangeHolds, ProteinSequenceHolds, DnaSequenceHolds, SequenceHolds}
 use Rattle.sequence.proofs.Named.{protein-entry-tests, protein-entry-tests-back, dna-entry-tests, dna-entry-tests-back}
 use Rattle.sequence.proofs.Named.{range-tests, range-tests-back}
 use Rattle.sequence.proofs.Ranges.{table-of, table-test, count-of, width-of, fits-both, starts-after, ends-within}
-use Rattle.sequence.proofs.Corrected.{covered-at, not-covered-at}
+use Rattle.sequence.proofs.Corrected.{covered-at, not-covered-at, count-stated, entry-stated, stated-apart}
 
 -- ---- the ambiguity range
 
@@ -96,28 +97,39 @@ module _ (sequence : List ℕ) (place end l w n : ℕ) (h : AllHold (rangeRules 
   count : entryCount sequence place end ≡ n
   count = count-of sequence place end w n e
 
+  -- the corrections that the range states
+  abbrev stated : List Correction
+  stated = correctionsAt sequence (place + 4) w n
+
+  stated-are : 0 < n → rangeCorrections sequence place end ≡ stated
+  stated-are i = rw (width i, count)
+
   -- the code of the entry that covers the place, which lies within L
   pub covered-residue : (j : ℕ) → j < n → correctionAt sequence (place + 4) w j .start ≤ k → k < correctionEnd (correctionAt sequence (place + 4) w j)
-      → (k < l)
-      × (correctedAt sequence (place + 4) (entryWidth sequence place) (entryCount sequence place end) k base
-      ≡ ambiguityCode (correctionAt sequence (place + 4) w j .value))
+      → (k < l) × (correctedAt (rangeCorrections sequence place end) k base ≡ ambiguityCode (correctionAt sequence (place + 4) w j .value))
   covered-residue j i a b =
       let c = correctionAt sequence (place + 4) w j in
       let f = width (omega arith) in
       let t : covers c k ≡ true = rw (le-leb (c .start) k a, lt-ltb k (correctionEnd c) b) in
       let m : every (entryFits sequence (place + 4) w l) n ≡ true = rw (f, count) at (range-tests sequence place end l h .entriesFit) in
       let r : correctionEnd c ≤ l = ends-within sequence (place + 4) w l n m j i in
-      (omega arith, rw (f, count) (covered-at sequence (place + 4) w l n k base j m i t))
+      let g = entry-stated sequence (place + 4) w n j i in (
+        omega arith,
+        rw (stated-are (omega arith))
+            (covered-at stated k base j (stated-apart sequence (place + 4) w n l m) (omega (arith, count-stated sequence (place + 4) w n)) (rw g t)
+            ∙ ap (λ (x : Correction). ambiguityCode (x .value)) g),
+      )
 
   -- the base where none does
   pub base-residue : ((j : ℕ) → j < n → (k < correctionAt sequence (place + 4) w j .start) ⊎ (correctionEnd (correctionAt sequence (place + 4) w j) ≤ k))
-      → correctedAt sequence (place + 4) (entryWidth sequence place) (entryCount sequence place end) k base ≡ base
-  base-residue o = rw count (not-covered-at sequence (place + 4) (entryWidth sequence place) n k base out)
+      → correctedAt (rangeCorrections sequence place end) k base ≡ base
+  base-residue o = not-covered-at (rangeCorrections sequence place end) k base out
     where
-      out : (j : ℕ) → j < n → covers (correctionAt sequence (place + 4) (entryWidth sequence place) j) k ≡ false
-      out j i =
+      out : (j : ℕ) → j < length (rangeCorrections sequence place end) → covers (correctionIn (rangeCorrections sequence place end) j) k ≡ false
+      out j m =
           let c = correctionAt sequence (place + 4) w j in
-          rw (width (omega arith))
+          let i : j < n = omega (arith, count-stated sequence (place + 4) (entryWidth sequence place) (entryCount sequence place end), count) in
+          rw (stated-are (omega arith), entry-stated sequence (place + 4) w n j i)
           (⊎-elim (λ a. rw (lt-leb (c .start) k a)) (λ b. rw (le-ltb k (correctionEnd c) b) (and-false (leb (c .start) k))) (o j i))
 
 -- ---- one sequence

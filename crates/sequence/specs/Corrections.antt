@@ -3,8 +3,9 @@
 -- Assumes nothing.
 use mathlib.Core.Bool.{Bool, true, cond, _&&_}
 use mathlib.Core.List.{List, [], _∷_}
-use Prim.Native.Nat.{ℕ, zero, suc, _+_, _*_, _-_, _/_, _%_, _^_}
+use Prim.Native.Nat.{ℕ, zero, suc, _+_, _*_, _-_, _/_, _%_, _^_, _≤_, _<_}
 use lib.Dec.{leb, ltb, eqb}
+use lib.ListN.{length, getD}
 use Rattle.laws.specs.Places.{every, listTo}
 use Rattle.laws.specs.Rules.{Rule, ask}
 use Rattle.laws.specs.Writing.{writtenAt}
@@ -76,22 +77,41 @@ rangeRules sequence place end l =
 
 -- ---- corrections made
 
+-- The corrections that n entries of w bytes from a place on state.
+abbrev pub correctionsAt : List ℕ → ℕ → ℕ → ℕ → List Correction
+correctionsAt sequence entries w n = listTo (correctionAt sequence entries w) n
+
+-- The corrections of the range from a place up to an end.
+abbrev pub rangeCorrections : List ℕ → ℕ → ℕ → List Correction
+rangeCorrections sequence place end = correctionsAt sequence (place + 4) (entryWidth sequence place) (entryCount sequence place end)
+
 -- A correction painted over residues.
 abbrev pub painted : Correction → List ℕ → List ℕ
 painted c residues = writtenAt (c .start) (listTo (λ _. ambiguityCode (c .value)) (c .length)) residues
 
--- The first n entries painted over residues, one after another.
-abbrev pub corrected : List ℕ → ℕ → ℕ → ℕ → List ℕ → List ℕ
-corrected sequence entries w zero residues = residues
-corrected sequence entries w (suc n) residues = painted (correctionAt sequence entries w n) (corrected sequence entries w n residues)
+-- Corrections painted over residues, one after another.
+abbrev pub corrected : List Correction → List ℕ → List ℕ
+corrected [] residues = residues
+corrected (c ∷ corrections) residues = corrected corrections (painted c residues)
 
--- The residue at a place k: the code of the entry that covers k, or the base.
+-- The residue at a place k: the code of the last correction that covers k, or the base.
 abbrev pub covers : Correction → ℕ → Bool
 covers c k = leb (c .start) k && ltb k (correctionEnd c)
 
-abbrev pub correctedAt : List ℕ → ℕ → ℕ → ℕ → ℕ → ℕ → ℕ
-correctedAt sequence entries w zero k base = base
-correctedAt sequence entries w (suc n) k base =
-    cond (covers (correctionAt sequence entries w n) k)
-    (ambiguityCode (correctionAt sequence entries w n .value))
-    (correctedAt sequence entries w n k base)
+abbrev pub correctedAt : List Correction → ℕ → ℕ → ℕ
+correctedAt [] k base = base
+correctedAt (c ∷ corrections) k base = correctedAt corrections k (cond (covers c k) (ambiguityCode (c .value)) base)
+
+-- ---- corrections as a list
+
+-- Correction j of a list; an empty one where there is none.
+abbrev pub correctionIn : List Correction → ℕ → Correction
+correctionIn corrections j = getD corrections j (record { value = 0; start = 0; length = 0 })
+
+-- Each starts at or after the end of the one before.
+abbrev pub Apart : List Correction → Type 0
+Apart corrections = (j : ℕ) → suc j < length corrections → correctionEnd (correctionIn corrections j) ≤ correctionIn corrections (suc j) .start
+
+-- Each ends within l.
+abbrev pub EndWithin : List Correction → ℕ → Type 0
+EndWithin corrections l = (j : ℕ) → j < length corrections → correctionEnd (correctionIn corrections j) ≤ l

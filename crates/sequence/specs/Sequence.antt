@@ -21,7 +21,7 @@ use Rattle.volume.specs.Tables.{sequenceOffset, ambiguityOffset, sequenceStart,
 use Rattle.sequence.specs.declared.DecodeAnswer.{DecodeAnswer}
 use Rattle.sequence.specs.declared.DecodeAnswer.the-variants.{Decoded, Refused}
 use Rattle.sequence.specs.Bases.{twoBitResidues}
-use Rattle.sequence.specs.Corrections.{entryWidth, entryCount, rangeRules, corrected}
+use Rattle.sequence.specs.Corrections.{rangeRules, rangeCorrections, corrected}
 
 -- ---- rules
 
@@ -97,8 +97,7 @@ proteinResidues sequence start l = listTo (λ k. proteinCode (byteFrom sequence 
 
 -- The residues of a DNA sequence: those of its two-bit bytes, with each correction painted over them.
 abbrev pub dnaResidues : List ℕ → ℕ → ℕ → ℕ → ℕ → List ℕ
-dnaResidues sequence start place end l =
-    corrected sequence (place + 4) (entryWidth sequence place) (entryCount sequence place end) (twoBitResidues sequence start l)
+dnaResidues sequence start place end l = corrected (rangeCorrections sequence place end) (twoBitResidues sequence start l)
 
 -- The residues of sequence i, by the type.
 abbrev pub proteinDecoded : List ℕ → List ℕ → ℕ → List ℕ

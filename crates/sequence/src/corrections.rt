@@ -10,7 +10,7 @@ ghost use Rattle.laws.specs.Places.{every, listTo};
 ghost use Rattle.laws.specs.Writing.{writtenAt};
 ghost use Rattle.fields.specs.Number.{big, unsignedAt};
 ghost use Rattle.answers.specs.Limits.{checkedBy};
-ghost use Rattle.sequence.specs.Corrections.{isTable, entryWidth, entryCount, correctionAt, correctionEnd, entryFits, rangeRules, corrected};
+ghost use Rattle.sequence.specs.Corrections.{isTable, entryWidth, entryCount, correctionAt, correctionEnd, entryFits, rangeRules, correctionsAt, corrected};
 
 // Whether the range from a place up to an end is empty, or a word and as many words as it says.
 fn is_table(sequence: &[u8], place: usize, end: usize) -> bool
@@ -159,7 +159,7 @@ fn paint(out: &mut [u8], start: usize, n: usize, code: u8)
 pub(crate) fn correct(sequence: &[u8], entries: usize, w: usize, n: usize, out: &mut [u8])
     requires { ⌜ ((w ≡ 4) ⊎ (w ≡ 8)) × ((j : ℕ) → j < n → entries + w * j + w ≤ length (now sequence)) ⌝ }
     requires { ⌜ ((j : ℕ) → j < n → correctionEnd (correctionAt (now sequence) entries w j) ≤ length (now out)) ⌝ }
-    ensures { λ _. ⌜ now (out .exit) ≡ corrected (now (sequence .entry)) entries w n (now (out .entry)) ⌝ }
+    ensures { λ _. ⌜ now (out .exit) ≡ corrected (correctionsAt (now (sequence .entry)) entries w n) (now (out .entry)) ⌝ }
 {
     let mut j = 0;
     while j < n {

@@ -3,6 +3,7 @@ use mathlib.Core.Path.{ap, _∙_}
 use mathlib.Core.List.{List}
 use Prim.Native.Nat.{ℕ, _+_}
 use denote.Ref.{now}
+use Rattle.fields.specs.Number.{little}
 use Rattle.fields.specs.Written.{numberPut}
 use Rattle.packets.proofs.Fours.{fours-written}
 use borrow.Author.Needs.{needs}
@@ -12,35 +13,35 @@ use Rattle.packets.proofs.put_two.Tie as tie
 four-codes-requires : tie.Need-four-codes-requires
 four-codes-requires c κs = search needs
 
-put-u32-requires : tie.Need-put-u32-requires
-put-u32-requires c κs = search needs
+put-le-u32-requires : tie.Need-put-le-u32-requires
+put-le-u32-requires c κs = search needs
 
-add-put-u32 : tie.Need-add-put-u32
-add-put-u32 c = search needs
+add-put-le-u32 : tie.Need-add-put-le-u32
+add-put-le-u32 c = search needs
 
 four-codes-requires-2 : tie.Need-four-codes-requires-2
 four-codes-requires-2 c κs = search needs
 
-put-u32-requires-2 : tie.Need-put-u32-requires-2
-put-u32-requires-2 c κs = search needs
+put-le-u32-requires-2 : tie.Need-put-le-u32-requires-2
+put-le-u32-requires-2 c κs = search needs
 
-add-put-u32-2 : tie.Need-add-put-u32-2
-add-put-u32-2 c = search needs
+add-put-le-u32-2 : tie.Need-add-put-le-u32-2
+add-put-le-u32-2 c = search needs
 
 four-codes-requires-3 : tie.Need-four-codes-requires-3
 four-codes-requires-3 c κs = search needs
 
-put-u32-requires-3 : tie.Need-put-u32-requires-3
-put-u32-requires-3 c κs = search needs
+put-le-u32-requires-3 : tie.Need-put-le-u32-requires-3
+put-le-u32-requires-3 c κs = search needs
 
-add-put-u32-3 : tie.Need-add-put-u32-3
-add-put-u32-3 c = search needs
+add-put-le-u32-3 : tie.Need-add-put-le-u32-3
+add-put-le-u32-3 c = search needs
 
 four-codes-requires-4 : tie.Need-four-codes-requires-4
 four-codes-requires-4 c κs = search needs
 
-put-u32-requires-4 : tie.Need-put-u32-requires-4
-put-u32-requires-4 c κs = search needs
+put-le-u32-requires-4 : tie.Need-put-le-u32-requires-4
+put-le-u32-requires-4 c κs = search needs
 
 same-length : tie.Need-same-length
 same-length c = search needs
@@ -57,12 +58,12 @@ returns c =
     let x₂ = (second .before .four-codes2) in
     let x₃ = (third .before .four-codes3) in
     let x₄ = (fourth .before .four-codes4) in
-    (fourth .put-u324) .ensures
-    ∙ ap (λ (l : List ℕ). numberPut 4 (a .at + 11) (x₄ .result) l)
-    ((third .put-u323) .ensures
-    ∙ ap (λ (l : List ℕ). numberPut 4 (a .at + 8) (x₃ .result) l)
-    ((second .put-u322) .ensures
-    ∙ ap (λ (l : List ℕ). numberPut 4 (a .at + 4) (x₂ .result) l) ((first .put-u32) .ensures)))
+    (fourth .put-le-u324) .ensures
+    ∙ ap (λ (l : List ℕ). numberPut little 4 (a .at + 11) (x₄ .result) l)
+    ((third .put-le-u323) .ensures
+    ∙ ap (λ (l : List ℕ). numberPut little 4 (a .at + 8) (x₃ .result) l)
+    ((second .put-le-u322) .ensures
+    ∙ ap (λ (l : List ℕ). numberPut little 4 (a .at + 4) (x₂ .result) l) ((first .put-le-u32) .ensures)))
     ∙ fours-written (a .at) (now (a .out)) (a .packet) (x₁ .result) (x₂ .result) (x₃ .result) (x₄ .result)
     (i .pre) (x₁ .ensures) (x₂ .ensures) (x₃ .ensures) (x₄ .ensures)
 
@@ -71,15 +72,15 @@ put-two-spec =
     tie.close
     (tie.spec
     four-codes-requires
-    put-u32-requires
-    add-put-u32
+    put-le-u32-requires
+    add-put-le-u32
     four-codes-requires-2
-    put-u32-requires-2
-    add-put-u32-2
+    put-le-u32-requires-2
+    add-put-le-u32-2
     four-codes-requires-3
-    put-u32-requires-3
-    add-put-u32-3
+    put-le-u32-requires-3
+    add-put-le-u32-3
     four-codes-requires-4
-    put-u32-requires-4
+    put-le-u32-requires-4
     same-length
     returns)

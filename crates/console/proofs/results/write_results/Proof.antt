@@ -5,6 +5,7 @@ use native.Mathlib.Omega.{arith}
 use lib.ListN.{length, take}
 use denote.Ref.{now}
 use Rattle.laws.specs.Writing.{writtenAt}
+use Rattle.fields.specs.Number.{little}
 use Rattle.fields.proofs.Laws.{length-put}
 use Rattle.console.specs.Results.{resultBytes}
 use Rattle.console.proofs.Values.{results-next, results-all}
@@ -22,17 +23,17 @@ abbrev μ-loop : tie.MeasureT-loop
 loop-holds : tie.Need-loop-holds Inv-loop μ-loop
 loop-holds c = (omega arith, refl, refl)
 
-mul-put-u64 : tie.Need-mul-put-u64 Inv-loop μ-loop
-mul-put-u64 c = search needs
+mul-put-le-u64 : tie.Need-mul-put-le-u64 Inv-loop μ-loop
+mul-put-le-u64 c = search needs
 
-mul-put-u64-2 : tie.Need-mul-put-u64-2 Inv-loop μ-loop
-mul-put-u64-2 c = search needs
+mul-put-le-u64-2 : tie.Need-mul-put-le-u64-2 Inv-loop μ-loop
+mul-put-le-u64-2 c = search needs
 
-shared-slice-read-put-u64 : tie.Need-shared-slice-read-put-u64 Inv-loop μ-loop
-shared-slice-read-put-u64 c = search needs
+shared-slice-read-put-le-u64 : tie.Need-shared-slice-read-put-le-u64 Inv-loop μ-loop
+shared-slice-read-put-le-u64 c = search needs
 
-put-u64-requires : tie.Need-put-u64-requires Inv-loop μ-loop
-put-u64-requires c κs = search needs
+put-le-u64-requires : tie.Need-put-le-u64-requires Inv-loop μ-loop
+put-le-u64-requires c κs = search needs
 
 add-k : tie.Need-add-k Inv-loop μ-loop
 add-k c = search needs
@@ -45,8 +46,8 @@ loop-again c =
     let a = (c .before .before .before .before .before .before .before .before .before .args) in
     let l = (c .before .before .before .before .before .before .loop) in (
       omega arith,
-      ap length ((c .before .before .put-u64) .ensures) ∙ (length-put 8 _ _ _ ∙ l .inv .1),
-      (c .before .before .put-u64) .ensures ∙ results-next (now (a .values)) (now (a .results)) (l .results) (l .k) _ (omega arith)
+      ap length ((c .before .before .put-le-u64) .ensures) ∙ (length-put little 8 _ _ _ ∙ l .inv .1),
+      (c .before .before .put-le-u64) .ensures ∙ results-next (now (a .values)) (now (a .results)) (l .results) (l .k) _ (omega arith)
           (c .before .before .before .before .before .before .before .before .before .pre) refl (l .inv .2) (l .inv .1),
     )
 
@@ -66,10 +67,10 @@ write-results-spec =
     Inv-loop
     μ-loop
     loop-holds
-    mul-put-u64
-    mul-put-u64-2
-    shared-slice-read-put-u64
-    put-u64-requires
+    mul-put-le-u64
+    mul-put-le-u64-2
+    shared-slice-read-put-le-u64
+    put-le-u64-requires
     add-k
     loop-less
     loop-again

@@ -7,15 +7,16 @@ use borrow.Author.Needs.{needs}
 use Rattle.packets.proofs.encoding.valid_codes.Statement.{statement}
 use Rattle.packets.proofs.encoding.valid_codes.Tie as tie
 
-largest-requires : tie.Need-largest-requires
-largest-requires c κs = search needs
+largest-code-requires : tie.Need-largest-code-requires
+largest-code-requires c κs = search needs
 
 code-limit-requires : tie.Need-code-limit-requires
 code-limit-requires c κs = search needs
 
 returns : tie.Need-returns
-returns c = let a = (c .before .before .before .args) .alphabet in
-    rw ((c .before .largest) .ensures, (c .code-limit) .ensures) (largest-below (codeLimit a) (now ((c .before .before .before .args) .codes)) (limit-some a))
+returns c =
+    let a = c .before .before .before .args in
+    rw ((c .before .largest-code) .ensures, (c .code-limit) .ensures) (largest-below (codeLimit (a .alphabet)) (now (a .codes)) (limit-some (a .alphabet)))
 
 pub valid-codes-spec : {M : Type 1} → statement M
-valid-codes-spec = tie.close (tie.spec largest-requires code-limit-requires returns)
+valid-codes-spec = tie.close (tie.spec largest-code-requires code-limit-requires returns)

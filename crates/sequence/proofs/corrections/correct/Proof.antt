@@ -5,14 +5,14 @@ use Prim.Native.Nat.{_≤_, _-_}
 use lib.ListN.{length}
 use denote.Ref.{now}
 use Rattle.sequence.specs.declared.Correction.{Correction}
-use Rattle.sequence.specs.Corrections.{corrected}
+use Rattle.sequence.specs.Corrections.{correctionsAt, corrected}
 use Rattle.sequence.proofs.Corrected.{corrected-next}
 use borrow.Author.Needs.{needs}
 use Rattle.sequence.proofs.corrections.correct.Statement.{statement}
 use Rattle.sequence.proofs.corrections.correct.Tie as tie
 
 abbrev Inv-loop : tie.InvT-loop
-Inv-loop sequence entries w n out₀ j₀ out j = (j ≤ n) × (length out ≡ length out₀) × (out ≡ corrected sequence entries w j out₀)
+Inv-loop sequence entries w n out₀ j₀ out j = (j ≤ n) × (length out ≡ length out₀) × (out ≡ corrected (correctionsAt sequence entries w j) out₀)
 
 abbrev μ-loop : tie.MeasureT-loop
 μ-loop sequence entries w n out₀ j₀ out j = n - j

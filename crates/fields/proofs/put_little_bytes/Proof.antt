@@ -1,4 +1,4 @@
--- `fields::put_bytes`: what is written so far, and what is left to write, are the number's bytes. Assumes nothing.
+-- `fields::put_little_bytes`: what is written so far, and what is left to write, are the number's bytes. Assumes nothing.
 use mathlib.Core.Path.{_≡_, refl, ap, _∙_}
 use mathlib.Core.List.{List}
 use Prim.Native.Nat.{ℕ, _≤_, _-_, _+_, _/_, _%_}
@@ -10,8 +10,8 @@ use Rattle.laws.proofs.Writing.{write-step, rest-step, paste-whole}
 use Rattle.fields.specs.Written.{littleBytes}
 use Rattle.fields.proofs.Laws.{little-cons, length-little}
 use borrow.Author.Needs.{needs}
-use Rattle.fields.proofs.put_bytes.Statement.{statement}
-use Rattle.fields.proofs.put_bytes.Tie as tie
+use Rattle.fields.proofs.put_little_bytes.Statement.{statement}
+use Rattle.fields.proofs.put_little_bytes.Tie as tie
 
 abbrev Inv-loop : tie.InvT-loop
 Inv-loop out₀ at w n rest₀ j₀ out rest j =
@@ -65,8 +65,8 @@ returns c =
     let e : l .j ≡ length (littleBytes (a .w) (a .n)) = omega (arith, length-little (a .w) (a .n)) in
     l .inv .2 ∙ rw e (paste-whole (a .at) (littleBytes (a .w) (a .n)) (now (a .out)))
 
-pub put-bytes-spec : {M : Type 1} → statement M
-put-bytes-spec =
+pub put-little-bytes-spec : {M : Type 1} → statement M
+put-little-bytes-spec =
     tie.close
     (tie.spec
     Inv-loop

@@ -1,4 +1,4 @@
--- `packets::encoding::largest`: the largest of the codes read so far. Assumes nothing.
+-- `residues::largest_code`: the largest of the codes read so far. Assumes nothing.
 use mathlib.Core.Path.{_≡_, refl, _∙_}
 use Prim.Native.Nat.{_≤_, _-_}
 use native.Mathlib.Omega.{arith}
@@ -7,8 +7,8 @@ use denote.Ref.{now}
 use Rattle.laws.specs.Places.{largestTo}
 use Rattle.laws.proofs.Places.{largest-more}
 use borrow.Author.Needs.{needs}
-use Rattle.packets.proofs.encoding.largest.Statement.{statement}
-use Rattle.packets.proofs.encoding.largest.Tie as tie
+use Rattle.residues.proofs.largest_code.Statement.{statement}
+use Rattle.residues.proofs.largest_code.Tie as tie
 
 abbrev Inv-loop : tie.InvT-loop
 Inv-loop codes most₀ i₀ most i = (i ≤ length codes) × (most ≡ largestTo (λ k. getD codes k 0) i)
@@ -42,8 +42,8 @@ returns c = let l = (c .before .loop) in
     let e : l .i ≡ length cs = omega arith in
     l .inv .1 ∙ rw e
 
-pub largest-spec : {M : Type 1} → statement M
-largest-spec =
+pub largest-code-spec : {M : Type 1} → statement M
+largest-code-spec =
     tie.close
     (tie.spec
     Inv-loop
