@@ -50,6 +50,8 @@ pub const CONSOLE_VOLUME_CHECK: u8 = 10;
 pub const CONSOLE_PACK: u8 = 11;
 pub const CONSOLE_UNPACK: u8 = 12;
 pub const PAGE: u8 = 13;
+pub const WRITE_NUCLEOTIDES: u8 = 14;
+pub const BASES_OF_CODE: u8 = 15;
 
 /// How a call's 22 is shown to come: ranges in the protocol are too small for it.
 #[derive(Clone, Copy, Debug, PartialEq, Eq)]
@@ -57,6 +59,7 @@ pub enum Large {
     CFunction,
     Timing,
     Contract,
+    NoRange,
 }
 
 impl Large {
@@ -65,6 +68,7 @@ impl Large {
             Large::CFunction => "in face, through the C function",
             Large::Timing => "in face, through the timing library",
             Large::Contract => "by contract only",
+            Large::NoRange => "cannot be: no range is lent",
         }
     }
 }
@@ -81,7 +85,7 @@ pub struct Signature {
 
 use Kind::{Number, NumberList, NumberOutput, Output, PacketOutput, PacketRange, Range};
 
-pub const SIGNATURES: [Signature; 13] = [
+pub const SIGNATURES: [Signature; 15] = [
     Signature {
         byte: VOLUME_CHECK,
         name: "volume check",
@@ -174,6 +178,20 @@ pub const SIGNATURES: [Signature; 13] = [
         kinds: &[Range, Range, NumberList, Output, NumberOutput],
         numbers: &[0, 1, 2, 3, 4, 5, 6, 7, 8, 10, 11, 12, 13, 22],
         large: Large::Timing,
+    },
+    Signature {
+        byte: WRITE_NUCLEOTIDES,
+        name: "write nucleotides",
+        kinds: &[Range, Output],
+        numbers: &[0, 13, 18, 22],
+        large: Large::Timing,
+    },
+    Signature {
+        byte: BASES_OF_CODE,
+        name: "bases of a code",
+        kinds: &[Number],
+        numbers: &[0, 18],
+        large: Large::NoRange,
     },
 ];
 

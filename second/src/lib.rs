@@ -16,6 +16,7 @@ pub mod line;
 pub mod listing;
 pub mod lookup;
 pub mod metadata;
+pub mod nucleotides;
 pub mod options;
 pub mod outcome;
 pub mod packets;

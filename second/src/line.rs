@@ -6,6 +6,7 @@ use crate::console::{console_check_volume, console_pack, console_unpack};
 use crate::dsqdata::check_set;
 use crate::headers::{Identifier, ObjectId, GI, LOCAL};
 use crate::lookup::lookup;
+use crate::nucleotides::{bases_of_code, write_nucleotides};
 use crate::page::fetch_page;
 use crate::records::{identifier, label, label_bytes, walker_step};
 use crate::runs::{pack, unpack, RunSize};
@@ -29,6 +30,8 @@ pub fn line_of(call: &Call) -> String {
         CONSOLE_PACK => console_pack_line(call),
         CONSOLE_UNPACK => console_unpack_line(call),
         PAGE => page_line(call),
+        WRITE_NUCLEOTIDES => write_nucleotides_line(call),
+        BASES_OF_CODE => bases_of_code_line(call),
         other => panic!("no line for call {other}"),
     }
 }
@@ -148,4 +151,14 @@ fn page_line(call: &Call) -> String {
     let mut ends = call.number_output(4);
     let page = fetch_page(call.range(0), call.range(1), call.numbers(2), &mut output, &mut ends);
     join(page.answer.map(|()| vec![]), &[page.done.to_string(), hex(&output), number_hex(&ends)])
+}
+
+fn write_nucleotides_line(call: &Call) -> String {
+    let mut output = call.output(1);
+    let answer = write_nucleotides(call.range(0), &mut output);
+    join(answer.map(|sizes| vec![sizes.two_bit, sizes.table]), &[hex(&output)])
+}
+
+fn bases_of_code_line(call: &Call) -> String {
+    join(bases_of_code(call.number(0)).map(|bases| vec![bases]), &[])
 }

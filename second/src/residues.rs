@@ -73,6 +73,12 @@ pub fn ambiguity_code(value: u8) -> u8 {
     Alphabet::Nucleic.code_of(letter_at(AMBIGUITY_LETTERS, value)).expect("an ambiguity letter is nucleic")
 }
 
+/// The ambiguity value of a valid nucleic code.
+pub fn ambiguity_value(code: u8) -> u8 {
+    let letter = letter_at(NUCLEIC_LETTERS, code);
+    AMBIGUITY_LETTERS.find(letter).expect("a nucleic letter is an ambiguity letter") as u8
+}
+
 /// The code of a protein byte, where it is one of 0 to 27.
 pub fn protein_code(value: u8) -> Option<u8> {
     if (value as usize) < PROTEIN_LETTERS.len() {

@@ -4,7 +4,7 @@
 mod common;
 
 use second::answers::{NO_ROOM, WRONG_TYPE};
-use second::call::{PACK, PAGE};
+use second::call::{BASES_OF_CODE, PACK, PAGE, WRITE_NUCLEOTIDES};
 use second::comparison::{compare, knows};
 use second::generate::order::Shows;
 use second::generate::{cases, Case};
@@ -27,10 +27,12 @@ fn script(name: &str, options: &str) -> PathBuf {
 
 #[test]
 fn it_agrees_with_our_own_answers() {
-    let mut told = 0;
-    let cases: Vec<Case> = cases(PACK, 1, 0, &common::samples()).collect();
-    let outcome = compare(Path::new(own_cases()), cases.clone().into_iter(), |done| told = done).unwrap();
-    assert_eq!((outcome.cases, outcome.differences.len(), told), (cases.len(), 0, cases.len()));
+    for byte in [PACK, WRITE_NUCLEOTIDES, BASES_OF_CODE] {
+        let mut told = 0;
+        let cases: Vec<Case> = cases(byte, 1, 0, &common::samples()).collect();
+        let outcome = compare(Path::new(own_cases()), cases.clone().into_iter(), |done| told = done).unwrap();
+        assert_eq!((outcome.cases, outcome.differences.len(), told), (cases.len(), 0, cases.len()));
+    }
 }
 
 #[test]

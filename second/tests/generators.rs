@@ -3,7 +3,7 @@
 
 mod common;
 
-use second::call::PAGE;
+use second::call::{MOST_RANGE, PAGE, WRITE_NUCLEOTIDES};
 use second::generate::{cases, GENERATED};
 use second::line::{done_of, line_of};
 use second::outcome::Outcome;
@@ -33,6 +33,28 @@ fn every_aimed_page_says_how_many_are_done() {
         assert!(refused().any(|case| done(case) == 0), "{number}");
         assert!(refused().any(|case| (1..case.call.numbers(2).len() - 1).contains(&done(case))), "{number}");
         assert!(refused().any(|case| done(case) > 0 && done(case) == case.call.numbers(2).len() - 1));
+    }
+}
+
+#[test]
+fn written_codes_have_every_stretch_around_whole_pieces() {
+    let lists: Vec<Vec<u8>> = cases(WRITE_NUCLEOTIDES, 5, 0, &common::samples())
+        .filter(|case| case.aim == Some(0))
+        .map(|case| case.call.range(0).to_vec())
+        .collect();
+    let has = |wanted: &dyn Fn(&[&[u8]]) -> bool| {
+        lists.iter().any(|codes| wanted(&codes.chunk_by(|one, next| one == next).collect::<Vec<_>>()))
+    };
+    for (code, length) in (4..=15).flat_map(|code| [15, 16, 17, 32, 33].map(|length| (code, length))) {
+        let stretch: &[u8] = &vec![code; length];
+        assert!(has(&|all| all == [stretch]), "{length} of {code} alone");
+        assert!(has(&|all| all.len() > 1 && all[0] == stretch), "{length} of {code} at the start");
+        assert!(has(&|all| all.len() > 2 && all[1..all.len() - 1].contains(&stretch)));
+        assert!(has(&|all| all.len() > 1 && all[all.len() - 1] == stretch), "{length} of {code} at the end");
+    }
+    for length in (0..=9).chain([MOST_RANGE - 1, MOST_RANGE]) {
+        assert!(lists.iter().any(|codes| codes.len() == length && codes.iter().all(|code| *code < 4)));
+        assert!(length == 0 || lists.iter().any(|codes| codes.len() == length && codes[0] >= 4), "{length}");
     }
 }
 

@@ -1,6 +1,7 @@
 //! The cases that the library is compared on: valid inputs, damage aimed at every refusal, both sides of each
 //! limit, two faults at once, real samples, and random changes. The same seed makes the same cases.
 
+pub mod base_cases;
 pub mod decode_cases;
 pub mod decode_rules;
 pub mod dna;
@@ -10,6 +11,9 @@ pub mod large;
 pub mod lookup_cases;
 pub mod metadata_rules;
 pub mod nodes;
+pub mod nucleotide_cases;
+pub mod nucleotide_codes;
+pub mod nucleotide_rules;
 pub mod order;
 pub mod pack_cases;
 pub mod page_cases;
@@ -77,7 +81,7 @@ impl Case {
 }
 
 /// The calls that have a generator: all of them.
-pub const GENERATED: [u8; 13] = [
+pub const GENERATED: [u8; 15] = [
     VOLUME_CHECK,
     DECODE,
     PACK,
@@ -91,6 +95,8 @@ pub const GENERATED: [u8; 13] = [
     CONSOLE_PACK,
     CONSOLE_UNPACK,
     PAGE,
+    WRITE_NUCLEOTIDES,
+    BASES_OF_CODE,
 ];
 
 /// The cases of a call: every planned one, then random ones until there are as many as asked.
@@ -113,6 +119,8 @@ pub fn planned(byte: u8, rng: &mut Rng, samples: &Samples) -> Vec<Case> {
         PACK | CONSOLE_PACK => pack_cases::planned(byte, rng, samples),
         UNPACK | CONSOLE_UNPACK => unpack_cases::planned(byte, rng, samples),
         PAGE => page_cases::planned(rng, samples),
+        WRITE_NUCLEOTIDES => nucleotide_cases::planned(rng, samples),
+        BASES_OF_CODE => base_cases::planned(rng),
         other => panic!("no generator for call {other}"),
     }
 }
@@ -129,6 +137,8 @@ pub fn orders(byte: u8) -> Vec<Order> {
         PACK | CONSOLE_PACK => pack_cases::orders(byte),
         UNPACK | CONSOLE_UNPACK => unpack_cases::orders(byte),
         PAGE => page_cases::orders(),
+        WRITE_NUCLEOTIDES => nucleotide_cases::orders(),
+        BASES_OF_CODE => base_cases::orders(),
         other => panic!("no generator for call {other}"),
     }
 }
@@ -145,6 +155,8 @@ pub fn random(byte: u8, rng: &mut Rng) -> Case {
         PACK | CONSOLE_PACK => pack_cases::random(byte, rng),
         UNPACK | CONSOLE_UNPACK => unpack_cases::random(byte, rng),
         PAGE => page_cases::random(rng),
+        WRITE_NUCLEOTIDES => nucleotide_cases::random(rng),
+        BASES_OF_CODE => base_cases::random(rng),
         other => panic!("no generator for call {other}"),
     }
 }

@@ -36,7 +36,7 @@ pub fn too_large() -> Result<&'static [u8], String> {
 }
 
 /// A buffer of zeros that can be written.
-fn large_buffer(length: usize) -> Result<&'static mut [u8], String> {
+pub fn large_buffer(length: usize) -> Result<&'static mut [u8], String> {
     let address = mapped(length, PROT_READ | PROT_WRITE)?;
     Ok(unsafe { std::slice::from_raw_parts_mut(address, length) })
 }

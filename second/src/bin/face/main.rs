@@ -1,10 +1,13 @@
 //! `face [--seed N] [--count N] [--samples DIR]`: calls the static library's C functions directly, and the timing library's
-//! page, with guard bytes around every lent range, on the cases of `compare` and on ranges too large for its protocol.
+//! page and writing of nucleotides, with guard bytes around every lent range, on the cases of `compare` and on ranges too
+//! large for its protocol.
 
 mod large;
 mod lent;
 mod library;
 mod lines;
+mod long;
+mod nucleotides;
 mod page;
 mod timing;
 
@@ -23,7 +26,7 @@ fn calls(large: Large) -> impl Iterator<Item = u8> {
 
 /// Whether a C function takes all cases of a call, and not only ranges that are too large.
 fn takes_cases(byte: u8) -> bool {
-    byte == PAGE || calls(Large::CFunction).any(|other| other == byte)
+    [PAGE, WRITE_NUCLEOTIDES].contains(&byte) || calls(Large::CFunction).any(|other| other == byte)
 }
 
 /// All cases of one call, and its large ranges.
@@ -37,6 +40,7 @@ fn outcome(byte: u8, options: &Options, samples: &samples::Samples, large: &[u8]
         CONSOLE_UNPACK => large::unpack(&mut outcome, large)?,
         CONSOLE_VOLUME_CHECK => large::check_volume(&mut outcome, large),
         PAGE => page::large(&mut outcome, large),
+        WRITE_NUCLEOTIDES => long::large(&mut outcome, large)?,
         other => return Err(format!("no C function takes the cases of call {other}")),
     }
     Ok(outcome)

@@ -1,4 +1,5 @@
-//! Number 22 of calls that the C face lacks and the timing library exports. Of the page it takes every case: see `page`.
+//! Number 22 of calls that the C face lacks and the timing library exports. Of the page and of
+//! writing nucleotides it takes every case: see `page` and `nucleotides`.
 
 use crate::large::{files, NO_SEQUENCES};
 use second::call::{DECODE, SET_CHECK};
