@@ -1,15 +1,17 @@
 /* The library's calls beside C at -O3 and beside memcpy, in one run. `bench --compare` compares all versions and times nothing.
  *
  * The best C makes the same checks in the same order and gives the same answers, by whatever algorithm is fastest, vectorised where gcc
- * does so for plain x86-64, for which the library is compiled too. Unchecked C trusts its input. Plain C, for the set check, is the
- * reference of earlier benchmarks.
+ * does so for plain x86-64, for which the library is compiled too. Unchecked C trusts its input. Plain C goes code by code for writing
+ * nucleotides, and for the set check is the reference of earlier benchmarks.
  *
  * The inputs are as databases have them: proteins of 350 residues on average, most from 100 to 500, one in sixteen longer, up to 2,500;
  * genomes in runs of a million bases, plain and with 1% N; short runs of 100 amino residues and of 150 bases. A volume's sequences are
  * such proteins, or DNA of 100 to 1,100 bases; its index has 0.3 to 50 MB, its sequence file up to 1.4 GB. The fifty sequences of a page
  * stand anywhere in a volume of 5,000 sequences of 400 residues, or of 500 of 100,000, DNA with 1% N, and of 2,000 such; as many pages are
- * fetched as the volume would fill, and the second reference is the library's own decoding, a call for each sequence. A set's sequences
- * are such proteins, or contigs of 200 to 20,000 bases with 1% N. */
+ * fetched as the volume would fill, and the second reference is the library's own decoding, a call for each sequence. Nucleotides are
+ * written from one sequence of bases, plain, with 1% N in stretches of 50 to 5,000, and with 10% ambiguous codes of every kind, scattered;
+ * up to 10 million residues the table has entries of 32 bits, with 100 million of 64. A set's sequences are such proteins, or contigs of
+ * 200 to 20,000 bases with 1% N. */
 #include "bench.h"
 
 #include <stdio.h>
@@ -24,6 +26,7 @@ static int compare_all(void)
     compare_volumes();
     compare_sequences();
     compare_pages();
+    compare_nucleotides();
     compare_sets();
     return print_agreed();
 }
@@ -43,6 +46,9 @@ static void time_all(void)
         time_sequences(size);
     print_head("Fetching pages of fifty, MB of residues", "single calls");
     time_pages();
+    print_head("Writing nucleotides, MB of codes", "plain C");
+    for (size_t size = 1000000; size <= 100000000; size *= 10)
+        time_nucleotides(size);
     print_head("The set check, MB of the sequence file", "plain C");
     for (size_t size = 1000000; size <= 100000000; size *= 10)
         time_sets(size);

@@ -8,6 +8,7 @@ void compare_runs(void);
 void compare_volumes(void);
 void compare_sequences(void);
 void compare_pages(void);
+void compare_nucleotides(void);
 void compare_sets(void);
 
 void time_runs(size_t residues);
@@ -15,6 +16,7 @@ void time_calls(void);
 void time_volumes(size_t sequences);
 void time_sequences(size_t residues);
 void time_pages(void);
+void time_nucleotides(size_t residues);
 void time_sets(size_t bytes);
 
 #endif

@@ -18,6 +18,8 @@ typedef uint32_t decode_call(const uint8_t *index, size_t index_len, const uint8
 typedef uint32_t page_call(const uint8_t *index, size_t index_len, const uint8_t *sequence, size_t sequence_len,
                            const uint64_t *numbers, size_t numbers_len, uint8_t *out, size_t out_len, uint64_t *ends, size_t ends_len,
                            uint8_t *results, size_t results_len);
+typedef uint32_t write_call(const uint8_t *codes, size_t codes_len, uint8_t *out, size_t out_len, uint8_t *results,
+                            size_t results_len);
 
 /* The best C with the same checks in the same order and the same answers. */
 pack_call c_pack;
@@ -26,6 +28,7 @@ volume_call c_check_volume;
 set_call c_check_set;
 decode_call c_decode;
 page_call c_fetch_page;
+write_call c_write_nucleotides;
 
 /* C that checks nothing. */
 pack_call unchecked_pack;
@@ -33,6 +36,9 @@ unpack_call unchecked_unpack;
 
 /* The set check packet by packet and byte by byte: the reference of earlier benchmarks. */
 set_call plain_check_set;
+
+/* Nucleotides written code by code. */
+write_call plain_write_nucleotides;
 
 /* The residues of a well-formed run of little-endian packets, or -1. */
 int64_t c_run_residues(uint32_t alphabet, const uint8_t *packets, size_t n);

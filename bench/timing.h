@@ -15,4 +15,8 @@ uint32_t gull_time_fetch_page(const uint8_t *index, size_t index_len, const uint
                               const uint64_t *numbers, size_t numbers_len, uint8_t *out, size_t out_len, uint64_t *ends,
                               size_t ends_len, uint8_t *results, size_t results_len);
 
+/* The results are the sizes of the two-bit bytes and of the table, eight bytes each, where they fit the range; none on a refusal. */
+uint32_t gull_time_write_nucleotides(const uint8_t *codes, size_t codes_len, uint8_t *out, size_t out_len, uint8_t *results,
+                                     size_t results_len);
+
 #endif
