@@ -1,8 +1,8 @@
 -- The corrections of codes, painted over the bases that stand for them, give the codes back. Assumes nothing.
-use mathlib.Core.Path.{_≡_, refl, sym, ap, _∙_}
-use mathlib.Core.Bool.{Bool, true, false, _&&_}
+use mathlib.Core.Path.{_≡_, sym, ap, _∙_}
+use mathlib.Core.Bool.{true, false}
 use mathlib.Core.List.{List}
-use Prim.Native.Nat.{ℕ, _+_, _≤_, _<_}
+use Prim.Native.Nat.{ℕ, _≤_, _<_}
 use native.Mathlib.Omega.{arith}
 use lib.Dec.{leb, ltb}
 use lib.ListN.{length}
@@ -10,7 +10,7 @@ use borrow.Author.Tests.{leb-true, leb-false, ltb-true, le-leb, lt-ltb}
 use Rattle.laws.proofs.Digits.{below-at}
 use Rattle.laws.proofs.Tests.{bool-cases, both-pass}
 use Rattle.residues.specs.Alphabets.{validCodes}
-use Rattle.residues.specs.Tables.{ambiguityCode, ambiguityValue}
+use Rattle.residues.specs.Tables.{ambiguityCode}
 use Rattle.residues.proofs.Alphabets.{code-of-value}
 use Rattle.sequence.specs.declared.Correction.{Correction}
 use Rattle.sequence.specs.Corrections.{correctionIn, correctionEnd, covers, correctedAt}
@@ -18,7 +18,7 @@ use Rattle.sequence.proofs.Corrected.{covered-at, not-covered-at}
 use Rattle.nucleotides.specs.TwoBit.{placeholderAt}
 use Rattle.nucleotides.specs.Scan.{codeAt}
 use Rattle.nucleotides.specs.Write.{dna}
-use Rattle.nucleotides.specs.Holds.{PiecesHold, PieceHolds, Covered}
+use Rattle.nucleotides.specs.Holds.{PiecesHold}
 use Rattle.nucleotides.proofs.Packing.{placeholder-plain}
 
 -- every code of valid codes is below 16

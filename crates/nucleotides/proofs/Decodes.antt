@@ -1,34 +1,32 @@
 -- Decoding returns the codes that were written: over decode's own definitions, for every volume in which they stand. Assumes nothing.
 use mathlib.Core.Path.{_≡_, refl, sym, ap, _∙_}
 use mathlib.Core.Bool.{true, false}
-use mathlib.Core.List.{List, _++_}
+use mathlib.Core.List.{List}
 use Prim.Native.Nat.{ℕ, _+_, _≤_, _<_}
 use native.Mathlib.Omega.{arith}
-use lib.IntN.{ℤ, pos}
-use lib.ListN.{length, getD, take}
+use lib.IntN.{pos}
+use lib.ListN.{length, take}
 use lib.Seq.{ext-getD, take-at}
 use borrow.Author.Tests.{le-leb, lt-ltb}
-use Rattle.laws.specs.Rules.{AllHold}
 use Rattle.laws.specs.Signed.{toNat}
 use Rattle.laws.specs.Writing.{writtenAt}
 use Rattle.laws.proofs.Signed.{le-test, lt-test}
 use Rattle.laws.proofs.Storing.{written-start}
 use Rattle.residues.specs.Alphabets.{validCodes}
 use Rattle.volume.specs.Index.{isProtein}
-use Rattle.volume.specs.Tables.{sequenceStart, dnaEnd, dnaLength, sequenceLength, twoBitLength}
+use Rattle.volume.specs.Tables.{dnaLength}
 use Rattle.volume.proofs.Exact.{dna-type}
 use Rattle.sequence.specs.declared.DecodeAnswer.the-variants.{Decoded}
 use Rattle.sequence.specs.Bases.{baseAt}
-use Rattle.sequence.specs.Corrections.{rangeRules, rangeCorrections, correctedAt}
-use Rattle.sequence.specs.Sequence.{rangeEnd, dnaResidues, decodeAnswer, decodeNumber, residuesOf, decodeOutput}
-use Rattle.sequence.specs.Holds.{RangeHolds, SequenceHolds, DnaSequenceHolds}
+use Rattle.sequence.specs.Corrections.{correctedAt}
+use Rattle.sequence.specs.Sequence.{dnaResidues, decodeAnswer, decodeNumber, residuesOf, decodeOutput}
+use Rattle.sequence.specs.Holds.{RangeHolds, SequenceHolds}
 use Rattle.sequence.proofs.Answers.{residues-dna}
 use Rattle.sequence.proofs.Corrected.{length-residues, residue-at}
 use Rattle.sequence.proofs.Decoded.{decoded-output}
 use Rattle.sequence.proofs.Exact.{range-test, rules-zero, zero-rules}
-use Rattle.nucleotides.specs.TwoBit.{twoBitSize, placeholderAt}
+use Rattle.nucleotides.specs.TwoBit.{twoBitSize}
 use Rattle.nucleotides.specs.Pieces.{mostRepeat, widthOf, correctionsOf}
-use Rattle.nucleotides.specs.Scan.{codeAt}
 use Rattle.nucleotides.specs.Write.{dna, rangeSize, bytesNeeded, sequenceBytes}
 use Rattle.nucleotides.specs.Stands.{Stands}
 use Rattle.nucleotides.proofs.Back.{code-back}

@@ -1,14 +1,12 @@
 -- A call that wrote: every rule held, and the output begins with the bytes of the definition. Assumes nothing.
 use mathlib.Core.Path.{_≡_, refl, sym, ap, ap₂, _∙_}
 use mathlib.Core.Bool.{true}
-use mathlib.Core.List.{List, [], _∷_, _++_}
+use mathlib.Core.List.{List, _++_}
 use Prim.Native.Nat.{ℕ, _+_, _≤_}
-use native.Mathlib.Omega.{arith}
 use lib.ListN.{length, take, drop, length-append}
 use lib.Seq.{take-at, drop-at}
 use borrow.Author.Tests.{leb-true}
 use Rattle.laws.specs.Rules.{AllHold}
-use Rattle.laws.specs.Writing.{writtenAt}
 use Rattle.laws.proofs.Storing.{written-start}
 use Rattle.answers.proofs.Numbers.{zero-passes}
 use Rattle.residues.specs.Alphabets.{validCodes}

@@ -1,20 +1,19 @@
 -- Two-bit bytes: the base of a code, and the byte of four. Assumes nothing.
-use mathlib.Core.Path.{_≡_, refl, sym, ap, _∙_}
+use mathlib.Core.Path.{_≡_, refl, ap, _∙_}
 use mathlib.Core.List.{List, [], _∷_}
-use Prim.Native.Nat.{ℕ, _+_, _*_, _-_, _/_, _%_, _^_, _≤_, _<_}
+use Prim.Native.Nat.{ℕ, _+_, _*_, _-_, _/_, _%_, _≤_, _<_}
 use native.Mathlib.Nat.{add-zero}
 use native.Mathlib.Omega.{arith}
 use lib.Arith.{digits-mod}
 use lib.Count.{trailingZeros}
 use lib.Dec.{eqb, ltb, lit<}
-use lib.ListN.{length, getD, List·getD-eq-default}
+use lib.ListN.{length, List·getD-eq-default}
 use borrow.Author.Tests.{ltb-true, ltb-false, eqb-true}
 use Rattle.laws.specs.Digits.{value}
 use Rattle.laws.proofs.Places.{every-at}
 use Rattle.laws.proofs.Tests.{bool-cases}
 use Rattle.residues.specs.Tables.{ambiguityValue, ambiguityValues}
-use Rattle.nucleotides.specs.TwoBit.{placeholder, placeholderAt, twoBitByte, lastByte}
-use Rattle.nucleotides.specs.Scan.{codeAt}
+use Rattle.nucleotides.specs.TwoBit.{placeholder, placeholderAt, twoBitByte}
 
 -- ---- the base of a code
 

@@ -1,37 +1,34 @@
 -- What was written, read where it stands in a file: the two-bit bytes, the length they tell, the word and the entries. Assumes nothing.
-use mathlib.Core.Path.{_≡_, refl, sym, ap, ap₂, subst, _∙_}
-use mathlib.Core.Bool.{Bool, true, false, cond}
+use mathlib.Core.Path.{_≡_, sym, ap, ap₂, subst, _∙_}
 use mathlib.Core.List.{List, [], _∷_, _++_}
 use mathlib.Core.Logic.{_⊎_, inl, inr, ⊎-elim}
 use Prim.Native.Nat.{ℕ, zero, suc, _+_, _*_, _-_, _/_, _%_, _^_, _≤_, _<_}
-use native.Mathlib.Nat.{mul-suc, mul-zero, mul-add, mul-le-mul-left, mod-eq-of-lt, zero-add}
+use native.Mathlib.Nat.{mul-suc, mul-zero, mul-le-mul-left, mod-eq-of-lt, zero-add}
 use native.Mathlib.Omega.{arith}
 use lib.Dec.{eqb}
-use lib.ListN.{length, getD, take, drop, length-append, length-drop, List·getD-append}
+use lib.ListN.{length, getD, take, drop, length-drop, List·getD-append}
 use lib.Seq.{take-add, take-take, take-at, drop-at, drop-drop, drop-append-add, getD-take, getD-drop, length-take-le, ext-getD}
 use borrow.Author.Tests.{eqb-true, eqb-false}
-use Rattle.fields.specs.Number.{big, unsignedAt}
+use Rattle.fields.specs.Number.{big}
 use Rattle.fields.specs.Written.{numberBytes}
 use Rattle.fields.proofs.Laws.{length-number, number-back}
 use Rattle.laws.proofs.Places.{length-listTo, listTo-at}
 use Rattle.laws.proofs.Tests.{bool-cases}
-use Rattle.residues.specs.Alphabets.{validCodes}
-use Rattle.residues.specs.Tables.{ambiguityValue}
 use Rattle.residues.proofs.Alphabets.{value-valid}
 use Rattle.volume.specs.Tables.{twoBitLength}
 use Rattle.sequence.specs.declared.Correction.{Correction}
 use Rattle.sequence.specs.Bases.{basesOf, baseAt}
-use Rattle.sequence.specs.Corrections.{firstWord, statedWords, correctionOf, correctionAt, correctionsAt, rangeCorrections, correctionIn, correctionEnd}
+use Rattle.sequence.specs.Corrections.{firstWord, statedWords, correctionOf, correctionAt, rangeCorrections, correctionIn}
 use Rattle.sequence.specs.Corrections.{entryWidth, entryCount}
 use Rattle.sequence.specs.Holds.{HasEntries, empty, narrow, wide, RangeHolds}
 use Rattle.sequence.proofs.Ranges.{count-of, width-of}
 use Rattle.nucleotides.specs.TwoBit.{placeholderAt, twoBitSize, twoBitBytes}
 use Rattle.nucleotides.specs.Pieces.{widthOf, mostRepeat, correctionsOf}
-use Rattle.nucleotides.specs.Table.{entryOf, entryBytes, tableWord, wordBytes, wordSize, tableBytes, tableSize}
+use Rattle.nucleotides.specs.Table.{entryOf, entryBytes, tableWord, wordBytes, tableBytes, tableSize}
 use Rattle.nucleotides.specs.Scan.{codeAt}
 use Rattle.nucleotides.specs.Write.{sequenceBytes, rangeSize, bytesNeeded}
 use Rattle.nucleotides.specs.Holds.{PiecesHold, TwoBitHolds}
-use Rattle.nucleotides.proofs.Entries.{Fits, widths, entry-back, entry-small, length-entries, length-word, word-some, word-narrow, word-wide}
+use Rattle.nucleotides.proofs.Entries.{Fits, widths, entry-back, entry-small, length-word, word-some, word-narrow, word-wide}
 use Rattle.nucleotides.proofs.Turns.{width-is, places-fit}
 use Rattle.nucleotides.proofs.Plain.{pieces-hold}
 use Rattle.nucleotides.proofs.PlainBytes.{bases-back, bytes-hold}

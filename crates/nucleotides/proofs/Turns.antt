@@ -1,23 +1,20 @@
 -- The loop that writes both parts: what holds before a block, what a block asks, and what holds behind it. Assumes nothing.
 use mathlib.Core.Path.{_≡_, refl, sym, ap, ap₂, _∙_}
-use mathlib.Core.Bool.{cond}
 use mathlib.Core.List.{List, [], _∷_, _++_}
-use mathlib.Core.Logic.{_⊎_, inl, inr, ⊎-elim}
-use Prim.Native.Nat.{ℕ, _+_, _*_, _-_, _/_, _^_, _≤_, _<_}
+use mathlib.Core.Logic.{_⊎_, inl, inr}
+use Prim.Native.Nat.{ℕ, _+_, _*_, _-_, _/_, _^_, _≤_}
 use native.Mathlib.Nat.{mul-add, mul-le-mul-left}
 use native.Mathlib.Omega.{arith}
 use lib.Dec.{ltb}
-use lib.ListN.{length, take, drop, set, length-append, length-drop, length-set}
-use lib.Seq.{take-all}
-use borrow.Author.Tests.{ltb-true, ltb-false}
+use lib.ListN.{length, take, set, length-append, length-drop}
+use borrow.Author.Tests.{ltb-false}
 use Rattle.laws.specs.Places.{listTo}
 use Rattle.laws.specs.Writing.{writtenAt}
 use Rattle.laws.proofs.Places.{length-listTo, listTo-append}
 use Rattle.laws.proofs.Storing.{set-written}
 use Rattle.laws.proofs.Tests.{bool-cases}
-use Rattle.laws.proofs.Writing.{length-written}
 use Rattle.sequence.specs.declared.Correction.{Correction}
-use Rattle.nucleotides.specs.TwoBit.{twoBitSize, twoBitByte, lastByte, twoBitBytes}
+use Rattle.nucleotides.specs.TwoBit.{twoBitByte, lastByte, twoBitBytes}
 use Rattle.nucleotides.specs.Pieces.{piecesFrom, mostNarrow, widthOf, mostRepeat, correctionsOf}
 use Rattle.nucleotides.specs.Table.{entryBytes, wordBytes, wordSize, tableBytes}
 use Rattle.nucleotides.specs.Scan.{bytesFrom, Met}

@@ -1,12 +1,12 @@
 -- `nucleotides::write_nucleotides`: the checks in their order, then both parts. Assumes nothing.
-use mathlib.Core.Path.{_≡_, ap, ap₂, sym, _∙_}
+use mathlib.Core.Path.{_≡_, ap, _∙_}
 use mathlib.Core.List.{List}
-use Prim.Native.Nat.{ℕ, _+_, _*_, _/_, _≤_, _<_}
+use Prim.Native.Nat.{ℕ, _+_, _*_, _/_, _≤_}
 use native.Mathlib.Omega.{arith}
 use lib.ListN.{length}
 use lib.Pow.{pow-pos}
 use denote.Ref.{now}
-use Rattle.nucleotides.specs.declared.WriteAnswer.the-variants.{Written, Refused}
+use Rattle.nucleotides.specs.declared.WriteAnswer.the-variants.{Written}
 use Rattle.nucleotides.specs.Pieces.{correctionsOf}
 use Rattle.nucleotides.specs.Write.{rangeSize, bytesNeeded}
 use Rattle.nucleotides.proofs.Stretches.{pieces-count}

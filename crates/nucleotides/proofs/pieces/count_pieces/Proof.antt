@@ -1,8 +1,6 @@
 -- `nucleotides::pieces::count_pieces`: the scan goes on past a code or past a piece. Assumes nothing.
-use mathlib.Core.Path.{_≡_, refl, _∙_}
-use Prim.Native.Nat.{ℕ, _+_, _-_, _≤_, _<_}
+use Prim.Native.Nat.{_-_, _≤_}
 use native.Mathlib.Omega.{arith}
-use lib.ListN.{length}
 use denote.Ref.{now}
 use Rattle.nucleotides.specs.Scan.{Met}
 use Rattle.nucleotides.proofs.Stretches.{met-none, met-step, met-piece}

@@ -1,5 +1,5 @@
 -- `nucleotides::pieces::cut_stretch`: pieces of as many codes as the limit allows, then the rest. Assumes nothing.
-use Prim.Native.Nat.{ℕ, _+_, _-_, _≤_, _<_}
+use Prim.Native.Nat.{_+_, _-_, _≤_}
 use native.Mathlib.Omega.{arith}
 use denote.Ref.{now}
 use Rattle.nucleotides.specs.Scan.{Met}

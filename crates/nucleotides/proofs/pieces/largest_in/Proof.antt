@@ -1,7 +1,6 @@
 -- `nucleotides::pieces::largest_in`: the codes of the part are those of the whole. Assumes nothing.
 use mathlib.Core.Path.{_∙_}
 use denote.Ref.{now}
-use native.Mathlib.Omega.{arith}
 use Rattle.nucleotides.proofs.Stretches.{largest-part}
 use borrow.Author.Needs.{needs}
 use Rattle.nucleotides.proofs.pieces.largest_in.Statement.{statement}

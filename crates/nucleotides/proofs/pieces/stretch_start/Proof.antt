@@ -1,7 +1,7 @@
 -- `nucleotides::pieces::stretch_start`: the places passed have one code; where the loop ends, the stretch begins. Assumes nothing.
 use mathlib.Core.Path.{_≡_, refl, sym, ap, _∙_}
 use mathlib.Core.Logic.{inl, inr}
-use Prim.Native.Nat.{ℕ, _+_, _-_, _≤_, _<_}
+use Prim.Native.Nat.{ℕ, _≤_}
 use native.Mathlib.Omega.{arith}
 use denote.Ref.{now}
 use Rattle.nucleotides.specs.Scan.{codeAt}

@@ -1,9 +1,8 @@
 -- `nucleotides::table::put_entry`: by the width. Assumes nothing.
-use mathlib.Core.Path.{_≡_, _∙_}
-use Prim.Native.Nat.{_<_, _+_, _≤_, _^_, _*_}
+use mathlib.Core.Path.{_∙_}
+use Prim.Native.Nat.{_<_}
 use native.Mathlib.Omega.{arith}
 use denote.Ref.{now}
-use lib.ListN.{length}
 use Rattle.fields.specs.Number.{big}
 use Rattle.fields.proofs.Laws.{put-fits}
 use Rattle.sequence.proofs.Ranges.{width-eight}

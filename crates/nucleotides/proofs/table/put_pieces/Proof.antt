@@ -1,17 +1,14 @@
 -- `nucleotides::table::put_pieces`: the scan goes on, and a piece adds its entry behind the others. Assumes nothing.
-use mathlib.Core.Path.{_≡_, refl, sym, ap, _∙_}
+use mathlib.Core.Path.{_≡_, refl, _∙_}
 use mathlib.Core.List.{List}
-use Prim.Native.Nat.{ℕ, _+_, _*_, _-_, _^_, _≤_, _<_}
+use Prim.Native.Nat.{ℕ, _+_, _*_, _-_, _≤_, _<_}
 use native.Mathlib.Omega.{arith}
 use lib.ListN.{length, take}
 use lib.Pow.{pow-pos}
 use lib.Seq.{length-take-le}
 use denote.Ref.{now}
-use Rattle.fields.specs.Number.{big}
-use Rattle.fields.specs.Written.{numberBytes}
 use Rattle.laws.specs.Writing.{writtenAt}
 use Rattle.laws.proofs.Storing.{store-none}
-use Rattle.sequence.specs.declared.Correction.{Correction}
 use Rattle.nucleotides.specs.Pieces.{piece, piecesFrom}
 use Rattle.nucleotides.specs.Table.{entryBytes}
 use Rattle.nucleotides.specs.Scan.{codeAt, Met}

@@ -1,5 +1,5 @@
 -- `nucleotides::two_bit::packed`: the product has the byte. Assumes nothing.
-use Prim.Native.Nat.{_+_, _*_, _/_, _%_}
+use Prim.Native.Nat.{_*_, _/_, _%_}
 use mathlib.Core.Path.{ap, _∙_}
 use Prim.Native.Nat.{ℕ}
 use Rattle.nucleotides.proofs.Packing.{four-packed}

@@ -1,7 +1,7 @@
 -- `nucleotides::two_bit::placeholders`: the bases of the codes passed stand in front. Assumes nothing.
 use mathlib.Core.Path.{_≡_, refl, _∙_}
 use native.Mathlib.Omega.{arith}
-use Prim.Native.Nat.{ℕ, _≤_, _-_, _+_}
+use Prim.Native.Nat.{_≤_, _-_}
 use lib.ListN.{length, length-set}
 use Rattle.laws.specs.Places.{listTo}
 use Rattle.laws.specs.Writing.{writtenAt}
