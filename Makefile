@@ -3,7 +3,7 @@
 # make test       the gate: all proofs from nothing, every must-fail edit, every test
 # make edits      the wrong programs that are kept aside: the prover must refuse each
 # make wrong      wrong versions of the C programs: their tests must refuse each
-# make bench      the library beside the best C, unchecked C and memcpy, in one run
+# make bench      the library beside the best C, unchecked C and memcpy, in one run; BEFORE=../old/build/libtiming.a: its decoding too
 # make torture    a longer comparison with the second program, over every call it finds: SEED=.. COUNT=.. (cases a call)
 # make install    PREFIX=/usr/local: header, library, programs, man pages and pkg-config file; needs no toolchain when built
 # make uninstall  takes them away again
@@ -93,12 +93,21 @@ edits:
 wrong: build/proved programs
 	tests/wrong/try
 
-build/bench/bench: $(wildcard bench/*.c bench/*.h) include/gullcordage.h build/libgullcordage.a build/libtiming.a
+# Of an earlier build of the library, its decoding under another name.
+build/bench/before.o: $(BEFORE)
 	@mkdir -p build/bench
-	$(CC) -std=gnu11 -O3 -Wall -Wextra $(LDFLAGS) -o $@ $(filter %.c,$^) build/libgullcordage.a build/libtiming.a
+	$(LD) -r --whole-archive -o $@ $(BEFORE)
+	objcopy --redefine-sym gull_time_decode=before_decode $@
+	objcopy --keep-global-symbol=before_decode $@
 
-bench: build/bench/bench
-	build/bench/bench
+build/bench/beside: build/bench/before.o
+
+build/bench/bench build/bench/beside: $(wildcard bench/*.c bench/*.h) include/gullcordage.h build/libgullcordage.a build/libtiming.a
+	@mkdir -p build/bench
+	$(CC) -std=gnu11 -O3 -Wall -Wextra $(LDFLAGS) -o $@ $(filter %.c %.o,$^) build/libgullcordage.a build/libtiming.a
+
+bench: build/bench/$(if $(BEFORE),beside,bench)
+	$<
 
 torture:
 	@test -x target/bin/cases || { echo "torture: target/bin/cases is not there; run make first"; exit 1; }

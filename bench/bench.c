@@ -6,7 +6,9 @@
  *
  * The inputs are as databases have them: proteins of 350 residues on average, most from 100 to 500, one in sixteen longer, up to 2,500;
  * genomes in runs of a million bases, plain and with 1% N; short runs of 100 amino residues and of 150 bases. A volume's sequences are
- * such proteins, or DNA of 100 to 1,100 bases; its index has 0.3 to 50 MB, its sequence file up to 1.4 GB. The fifty sequences of a page
+ * such proteins, or DNA of 100 to 1,100 bases; its index has 0.3 to 50 MB, its sequence file up to 1.4 GB. Decoded are such proteins, one
+ * long protein, one long DNA sequence, plain and with 1% N, and fifty plain ones of 400 bases; where an earlier build of the library is
+ * linked (`make bench BEFORE=..`), the second reference is its decoding. The fifty sequences of a page
  * stand anywhere in a volume of 5,000 sequences of 400 residues, or of 500 of 100,000, DNA with 1% N, and of 2,000 such; as many pages are
  * fetched as the volume would fill, and the second reference is the library's own decoding, a call for each sequence. Nucleotides are
  * written from one sequence of bases, plain, with 1% N in stretches of 50 to 5,000, and with 10% ambiguous codes of every kind, scattered;
@@ -41,9 +43,10 @@ static void time_all(void)
     print_head("The volume check, MB of index", "");
     for (size_t size = 40000; size <= 4000000; size *= 10)
         time_volumes(size);
-    print_head("Decoding, MB of residues", "");
+    print_head("Decoding, MB of residues", "before");
     for (size_t size = 1000000; size <= 100000000; size *= 10)
         time_sequences(size);
+    time_short_sequences();
     print_head("Fetching pages of fifty, MB of residues", "single calls");
     time_pages();
     print_head("Writing nucleotides, MB of codes", "plain C");

@@ -15,6 +15,7 @@ void time_runs(size_t residues);
 void time_calls(void);
 void time_volumes(size_t sequences);
 void time_sequences(size_t residues);
+void time_short_sequences(void);
 void time_pages(void);
 void time_nucleotides(size_t residues);
 void time_sets(size_t bytes);

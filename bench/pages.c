@@ -212,8 +212,8 @@ void compare_pages(void)
     for (uint32_t type = 0; type < 2; type++) {
         compare_volume(make_volume(type, 60), &state);
         for (int k = 0; k < 4; k++)
-            for (int wide = 0; wide < 2; wide++)
-                compare_volume(make_even(type, 60, lengths[k], wide), &state);
+            for (enum corrections c = NARROW; c <= WIDE; c++)
+                compare_volume(make_even(type, 60, lengths[k], c), &state);
     }
 }
 
@@ -259,7 +259,7 @@ static void decode_all(void *context)
 /* As many pages as a volume of n sequences of one length would fill; the numbers of each are drawn from all of it. */
 static void time_page(const char *name, uint32_t type, size_t n, size_t length)
 {
-    struct reader ours = {.v = make_even(type, n, length, 1), .length = length, .pages = n / ITEMS, .fetch = gull_time_fetch_page};
+    struct reader ours = {.v = make_even(type, n, length, WIDE), .length = length, .pages = n / ITEMS, .fetch = gull_time_fetch_page};
     uint64_t state = 43;
     ours.numbers = (uint64_t *)(void *)touched(n * sizeof *ours.numbers);
     for (size_t k = 0; k < n; k++)

@@ -1,5 +1,5 @@
-/* Decoding: one long sequence, protein and DNA with corrections, and the proteins of a volume one after another; both versions compared,
- * and timed. */
+/* Decoding: one long sequence, protein and DNA, with corrections and without, and the proteins of a volume or fifty short DNA sequences
+ * one after another; both versions compared, and timed, beside an earlier build of the library where one is linked. */
 #include <stdlib.h>
 #include <string.h>
 
@@ -9,15 +9,15 @@
 #include "timing.h"
 #include "volumes.h"
 
-/* A volume of one protein (type 1) or DNA sequence (type 0), and room for its residues. */
-static struct volume make_long(uint32_t type, size_t residues, int wide)
+/* A volume of n proteins (type 1) or DNA sequences (type 0) of one length, and room for all residues. */
+static struct volume make_roomy(uint32_t type, size_t n, size_t length, enum corrections c)
 {
-    struct volume v = make_even(type, 1, residues, wide);
-    v.out = touched(residues);
+    struct volume v = make_even(type, n, length, c);
+    v.out = touched(v.residues);
     return v;
 }
 
-static void free_long(struct volume *v)
+static void free_roomy(struct volume *v)
 {
     free_volume(v);
     free(v->out);
@@ -68,10 +68,10 @@ static void agree_damaged(struct volume *v, int times)
 }
 
 /* The same with a correction moved to the end of the one before it or to the end of the sequence, or one residue to either side. */
-static void agree_corrections(struct volume *v, int wide)
+static void agree_corrections(struct volume *v, enum corrections c)
 {
     uint8_t *other = touched(v->residues);
-    size_t entry = wide ? 8 : 4;
+    size_t entry = c == WIDE ? 8 : 4;
     for (int k = 1; k < 4; k++) {
         uint8_t *at = v->sequence + v->sequence_len - 4 - entry * (size_t)(3 - k);
         uint32_t was = be32(at), first = was - 1000 * (uint32_t)k; /* corrections of ten residues begin at each thousand */
@@ -99,31 +99,45 @@ static void compare_volume(uint32_t type)
     large.index_len = (size_t)MOST_BYTES + 1;
     agree_decoding(&large, other, 0, v.residues, "decoding a large index");
     free(other);
-    free_long(&v);
+    free_roomy(&v);
 }
 
+/* One sequence of each length from one on, undamaged, damaged, and with its corrections moved. */
+static void compare_lengths(uint32_t type, size_t from, size_t lengths, enum corrections c, int times)
+{
+    for (size_t residues = from; residues < from + lengths; residues++) {
+        struct volume v = make_roomy(type, 1, residues, c);
+        agree_damaged(&v, times);
+        if (type == 0 && c != NONE)
+            agree_corrections(&v, c);
+        free_roomy(&v);
+    }
+}
+
+/* Of DNA also sequences that are long enough for the library's table, and some that are just too short for it. */
 void compare_sequences(void)
 {
     for (uint32_t type = 0; type < 2; type++) {
         compare_volume(type);
-        for (int wide = 0; wide < 2; wide++)
-            for (size_t residues = 4000; residues < 4004; residues++) {
-                struct volume v = make_long(type, residues, wide);
-                agree_damaged(&v, 500);
-                if (type == 0)
-                    agree_corrections(&v, wide);
-                free_long(&v);
-            }
+        for (enum corrections c = NARROW; c <= WIDE; c++)
+            compare_lengths(type, 4000, 4, c, 500);
     }
+    for (enum corrections c = NONE; c <= WIDE; c++)
+        compare_lengths(0, 131072 - 8, 8 + 40, c, 20);
 }
+
+/* The decoding of an earlier build of the library; absent unless `make bench` is given one. */
+__attribute__((weak)) decode_call before_decode;
 
 static void time_decoding(const char *name, struct volume ours)
 {
-    struct volume best = ours;
+    struct volume best = ours, before = ours;
     ours.decode = gull_time_decode;
     best.decode = c_decode;
-    compare_times(name, ours.residues, (struct versions){.ours = {decode_all, &ours}, .best = {decode_all, &best}});
-    free_long(&ours);
+    before.decode = before_decode;
+    compare_times(name, ours.residues,
+                  (struct versions){{decode_all, &ours}, {decode_all, &best}, {before_decode ? decode_all : NULL, &before}});
+    free_roomy(&ours);
 }
 
 void time_sequences(size_t residues)
@@ -131,6 +145,12 @@ void time_sequences(size_t residues)
     struct volume proteins = make_volume(1, residues / 350);
     proteins.out = touched(proteins.residues);
     time_decoding("decode proteins, one by one", proteins);
-    time_decoding("decode one long protein", make_long(1, residues, 0));
-    time_decoding("decode one DNA with corrections", make_long(0, residues, 1));
+    time_decoding("decode one long protein", make_roomy(1, 1, residues, NONE));
+    time_decoding("decode one DNA", make_roomy(0, 1, residues, NONE));
+    time_decoding("decode one DNA with corrections", make_roomy(0, 1, residues, WIDE));
+}
+
+void time_short_sequences(void)
+{
+    time_decoding("decode fifty DNA of 400, one by one", make_roomy(0, 50, 400, NONE));
 }

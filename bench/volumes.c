@@ -78,18 +78,17 @@ struct volume make_volume(uint32_t type, size_t n)
     return v;
 }
 
-/* An ambiguity range: so many corrections of ten N, one in each thousand residues, in entries of 64 or 32 bits; its end. Without any it is
- * empty. */
-static size_t put_corrections(uint8_t *sequence, size_t at, size_t entries, int wide)
+/* An ambiguity range: so many corrections of ten N, one in each thousand residues; its end. Without any it is empty. */
+static size_t put_corrections(uint8_t *sequence, size_t at, size_t entries, enum corrections c)
 {
-    if (entries == 0)
+    if (entries == 0 || c == NONE)
         return at;
-    put_be(sequence + at, (uint32_t)(wide ? 0x80000000u | 2 * entries : entries));
+    put_be(sequence + at, (uint32_t)(c == WIDE ? 0x80000000u | 2 * entries : entries));
     at += 4;
     for (uint32_t i = 0; i < entries; i++) {
-        put_be(sequence + at, wide ? 0xf0090000u : 0xf9000000u | 1000 * i);
+        put_be(sequence + at, c == WIDE ? 0xf0090000u : 0xf9000000u | 1000 * i);
         at += 4;
-        if (wide) {
+        if (c == WIDE) {
             put_be(sequence + at, 1000 * i);
             at += 4;
         }
@@ -107,7 +106,7 @@ static size_t put_drawn(uint8_t *sequence, size_t at, uint32_t type, size_t leng
     return at;
 }
 
-struct volume make_even(uint32_t type, size_t n, size_t length, int wide)
+struct volume make_even(uint32_t type, size_t n, size_t length, enum corrections c)
 {
     struct volume v = {.sequences = n, .residues = n * length};
     size_t table = 4 * (n + 1), at = type;
@@ -124,7 +123,7 @@ struct volume make_even(uint32_t type, size_t n, size_t length, int wide)
         if (type == 1)
             continue;
         put_be(ambiguities + 4 * i, (uint32_t)at);
-        at = put_corrections(v.sequence, at, (i + 1) * length / 1000 - i * length / 1000, wide);
+        at = put_corrections(v.sequence, at, (i + 1) * length / 1000 - i * length / 1000, c);
     }
     put_be(sequences + 4 * n, (uint32_t)at);
     if (type == 0)

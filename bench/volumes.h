@@ -16,9 +16,11 @@ struct volume {
  * correction. */
 struct volume make_volume(uint32_t type, size_t n);
 
-/* A volume of n sequences of one length, their residues drawn at random, without a header file; DNA has ten N in each thousand residues,
- * counted over all sequences, in entries of 64 or 32 bits. */
-struct volume make_even(uint32_t type, size_t n, size_t length, int wide);
+/* The corrections of DNA: none, or ten N in each thousand residues, counted over all sequences, in entries of 32 or 64 bits. */
+enum corrections { NONE, NARROW, WIDE };
+
+/* A volume of n sequences of one length, their residues drawn at random, without a header file. */
+struct volume make_even(uint32_t type, size_t n, size_t length, enum corrections c);
 void free_volume(struct volume *v);
 
 #endif

@@ -28,8 +28,8 @@ extern "C" {
 /* The version of this header and of the library and the programs beside it. */
 #define GULL_VERSION_MAJOR 0
 #define GULL_VERSION_MINOR 4
-#define GULL_VERSION_PATCH 0
-#define GULL_VERSION "0.4.0"
+#define GULL_VERSION_PATCH 1
+#define GULL_VERSION "0.4.1"
 
 /* Answers. */
 enum {

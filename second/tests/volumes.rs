@@ -152,6 +152,16 @@ fn the_table_for_the_desk() {
     assert_eq!(dna("0000000000", "00000001 FF000000"), Ok("N".repeat(16)));
 }
 
+/// Request 2026-04: the four codes of a byte, highest first.
+#[test]
+fn every_whole_byte_has_four_bases() {
+    for byte in 0..256 {
+        let letters: String =
+            [64, 16, 4, 1].map(|place| ['A', 'C', 'G', 'T'][byte / place % 4]).iter().collect();
+        assert_eq!(dna(&format!("{byte:02X} 00"), ""), Ok(letters), "{byte}");
+    }
+}
+
 #[test]
 fn ambiguity_ranges_that_are_good_or_bad() {
     assert_eq!(dna("1B00", "00000000"), Ok("ACGT".to_string()));

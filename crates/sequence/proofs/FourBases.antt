@@ -10,7 +10,7 @@ use Rattle.laws.specs.Writing.{writtenAt}
 use Rattle.laws.proofs.Storing.{store-front}
 use Rattle.sequence.specs.Bases.{basesOf, baseAt, twoBitResidues}
 
-list₄ : {a b c d x y z w : ℕ} → a ≡ x → b ≡ y → c ≡ z → d ≡ w → _≡_ {A = List ℕ} (a ∷ b ∷ c ∷ d ∷ []) (x ∷ y ∷ z ∷ w ∷ [])
+pub list₄ : {a b c d x y z w : ℕ} → a ≡ x → b ≡ y → c ≡ z → d ≡ w → _≡_ {A = List ℕ} (a ∷ b ∷ c ∷ d ∷ []) (x ∷ y ∷ z ∷ w ∷ [])
 list₄ e f g h = rw (e, f, g, h)
 
 -- the product has the half byte twice

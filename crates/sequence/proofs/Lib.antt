@@ -1,4 +1,5 @@
 pub mod FourBases
+pub mod BaseTable
 pub mod Blocks
 pub mod Named
 pub mod Own

@@ -1,4 +1,5 @@
 pub mod Bases
+pub mod BaseTable
 pub mod Corrections
 pub mod Sequence
 pub mod Mended

@@ -1,4 +1,5 @@
 // Residues out of bytes: two-bit residues, four to a byte, and protein residues, one to a byte.
+use super::table::write_by_table;
 ghost use mathlib.Core.Path.{_≡_};
 ghost use Prim.Native.Nat.{ℕ, _+_, _*_, _-_, _/_, _≤_, _<_};
 ghost use lib.ListN.{length};
@@ -24,8 +25,12 @@ fn bases(byte: u8) -> [u8; 4]
     ]
 }
 
-// Writes the bases of whole bytes from a start on.
-fn write_whole(sequence: &[u8], start: usize, count: usize, out: &mut [u8])
+// The least number of whole bytes whose bases are taken from the table. It is lent by laying it out on the stack, once for each sequence, for
+// which short ones have no time; and up to this length, whose residues a processor's nearest cache about holds, products are twice as fast.
+const LONG: usize = 32768;
+
+// Writes the bases of whole bytes from a start on, each byte's by products.
+fn write_by_products(sequence: &[u8], start: usize, count: usize, out: &mut [u8])
     requires { ⌜ (start + count ≤ length (now sequence)) × (4 * count ≤ length (now out)) ⌝ }
     ensures { λ _. ⌜ now (out .exit) ≡ writtenAt 0 (twoBitResidues (now (sequence .entry)) start (4 * count)) (now (out .entry)) ⌝ }
 {
@@ -38,6 +43,18 @@ fn write_whole(sequence: &[u8], start: usize, count: usize, out: &mut [u8])
         out[4 * m + 3] = four[3];
         m += 1;
     }
+}
+
+// Writes the bases of whole bytes from a start on.
+fn write_whole(sequence: &[u8], start: usize, count: usize, out: &mut [u8])
+    requires { ⌜ (start + count ≤ length (now sequence)) × (4 * count ≤ length (now out)) ⌝ }
+    ensures { λ _. ⌜ now (out .exit) ≡ writtenAt 0 (twoBitResidues (now (sequence .entry)) start (4 * count)) (now (out .entry)) ⌝ }
+{
+    if count < LONG {
+        write_by_products(sequence, start, count, out);
+        return;
+    }
+    write_by_table(sequence, start, count, out);
 }
 
 // Writes the first l residues of the two-bit bytes from a start on.

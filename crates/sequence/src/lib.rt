@@ -2,6 +2,7 @@
 mod bases;
 mod corrections;
 mod entries;
+mod table;
 
 use answers::MOST_BYTES;
 use answers::Refusal;

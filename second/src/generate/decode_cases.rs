@@ -93,6 +93,8 @@ pub fn planned(rng: &mut Rng, samples: &Samples) -> Vec<Case> {
     cases.extend(tables(rng));
     cases.extend(protein_bytes(rng));
     cases.extend(real(rng, samples));
+    cases.extend(two_bit_bytes(rng));
+    cases.extend(whole_bytes(rng));
     cases
 }
 
@@ -205,6 +207,36 @@ fn protein_bytes(rng: &mut Rng) -> Vec<Case> {
         choose(&mut plan, 0, rng);
         let aim = if value <= 27 { 0 } else { BAD_PROTEIN_BYTE };
         cases.push(Case::aimed(call(&plan, rng), aim, format!("byte {value}")));
+    }
+    cases
+}
+
+/// Every two-bit byte, once whole and once as the last.
+fn two_bit_bytes(rng: &mut Rng) -> Vec<Case> {
+    let mut cases = Vec::new();
+    for value in 0..=255 {
+        let one = Stored { residues: 4 + value as usize % 4, bytes: vec![value; 2], range: vec![] };
+        let mut plan = Plan::new(0, &[one], &[vec![]], rng);
+        choose(&mut plan, 0, rng);
+        cases.push(Case::aimed(call(&plan, rng), 0, format!("two-bit byte {value}")));
+    }
+    cases
+}
+
+/// So many whole bytes, counting on from a value, with 0 to 3 residues behind them; they start at any place of a block.
+fn whole_bytes(rng: &mut Rng) -> Vec<Case> {
+    let mut cases = Vec::new();
+    for whole in (0..=66).chain([255, 256, 257, 1023]) {
+        for more in 0..4 {
+            let before = 4 * rng.below(17);
+            let first = Stored { residues: before, bytes: two_bit(before, rng), range: vec![] };
+            let mut bytes: Vec<u8> = (0..whole).map(|k| (k + whole) as u8).collect();
+            bytes.push(4 * rng.below(64) as u8 + more as u8);
+            let second = Stored { residues: 4 * whole + more, bytes, range: vec![] };
+            let mut plan = Plan::new(0, &[first, second], &[vec![], vec![]], rng);
+            choose(&mut plan, 1, rng);
+            cases.push(Case::aimed(call(&plan, rng), 0, format!("{whole} whole bytes and {more} residues")));
+        }
     }
     cases
 }

@@ -1,7 +1,8 @@
 //! `face [--seed N] [--count N] [--samples DIR]`: calls the static library's C functions directly, and the timing library's
 //! page and writing of nucleotides, with guard bytes around every lent range, on the cases of `compare` and on ranges too
-//! large for its protocol.
+//! large for its protocol; of decoding, only those.
 
+mod chromosomes;
 mod large;
 mod lent;
 mod library;
@@ -46,12 +47,15 @@ fn outcome(byte: u8, options: &Options, samples: &samples::Samples, large: &[u8]
     Ok(outcome)
 }
 
-/// The large ranges of a call of which the timing library shows nothing else.
-fn timed(byte: u8, large: &[u8]) -> Result<Outcome, String> {
+/// What the protocol of `compare` has no room for, of a call whose cases go through that alone.
+fn timed(byte: u8, options: &Options, large: &[u8]) -> Result<Outcome, String> {
     let mut outcome = Outcome::default();
     match byte {
         SET_CHECK => timing::check_set_large(&mut outcome, large),
-        DECODE => timing::decode_large(&mut outcome, large),
+        DECODE => {
+            timing::decode_large(&mut outcome, large);
+            chromosomes::long(&mut outcome, options.seed);
+        }
         other => return Err(format!("the timing library has no call {other}")),
     }
     Ok(outcome)
@@ -89,7 +93,7 @@ fn run() -> Result<usize, String> {
     }
     println!("{}", table::numbers(&outcomes, true));
     for byte in only_large {
-        let outcome = timed(byte, large)?;
+        let outcome = timed(byte, &options, large)?;
         outcome.tell_differences();
         wrong += outcome.differences.len();
         outcomes.push((byte, outcome));

@@ -1,5 +1,5 @@
 //! Number 22 of calls that the C face lacks and the timing library exports. Of the page and of
-//! writing nucleotides it takes every case: see `page` and `nucleotides`.
+//! writing nucleotides it takes every case: see `page` and `nucleotides`; of decoding, long sequences: see `chromosomes`.
 
 use crate::large::{files, NO_SEQUENCES};
 use second::call::{DECODE, SET_CHECK};
@@ -33,7 +33,8 @@ extern "C" {
 
 /// A number, and whether the bytes lent for writing are as they were: every case here is a refusal.
 fn line(number: u32, lent: &[u8]) -> String {
-    let touched = if lent.iter().all(|byte| *byte == 8) { "" } else { " and bytes lent for writing were changed" };
+    let touched =
+        if lent.iter().all(|byte| *byte == 8) { "" } else { " and bytes lent for writing were changed" };
     format!("{number}{touched}")
 }
 
@@ -63,23 +64,27 @@ pub fn check_set_large(outcome: &mut Outcome, large: &[u8]) {
     }
 }
 
+/// Decoding. Every range is lent for the call alone, and none shares a byte with another.
+pub fn time_decode(index: &[u8], sequence: &[u8], number: u64, output: &mut [u8]) -> u32 {
+    unsafe {
+        gull_time_decode(
+            index.as_ptr(),
+            index.len(),
+            sequence.as_ptr(),
+            sequence.len(),
+            number,
+            output.as_mut_ptr(),
+            output.len(),
+        )
+    }
+}
+
 /// Each file of a volume. An index of zeros has version 0; a volume without sequences has none of the number 0.
 pub fn decode_large(outcome: &mut Outcome, large: &[u8]) {
     for (files, case) in files(DECODE, &NO_SEQUENCES[..2], &[2, 10], large) {
         let expected = decode(files[0], files[1], 0, &mut []).err().unwrap_or(0);
         let mut output = [8u8; 4];
-        let [a, b] = [files[0], files[1]];
-        let found = unsafe {
-            gull_time_decode(
-                a.as_ptr(),
-                a.len(),
-                b.as_ptr(),
-                b.len(),
-                0,
-                output.as_mut_ptr(),
-                output.len(),
-            )
-        };
+        let found = time_decode(files[0], files[1], 0, &mut output);
         outcome.count(&case, &line(expected, &[]), line(found, &output));
     }
 }

@@ -1,4 +1,4 @@
--- `sequence::bases::write_whole`: the bases of the bytes passed are written, and the rest of the output is as it was. Assumes nothing.
+-- `sequence::bases::write_by_products`: the bases of the bytes passed are written, and the rest of the output is as it was. Assumes nothing.
 use mathlib.Core.Path.{_≡_, refl, ap, _∙_}
 use mathlib.Core.List.{List}
 use native.Mathlib.Omega.{arith}
@@ -10,8 +10,8 @@ use Rattle.laws.proofs.Storing.{store-none}
 use Rattle.sequence.specs.Bases.{twoBitResidues, baseAt}
 use Rattle.sequence.proofs.FourBases.{four-stored}
 use borrow.Author.Needs.{needs}
-use Rattle.sequence.proofs.bases.write_whole.Statement.{statement}
-use Rattle.sequence.proofs.bases.write_whole.Tie as tie
+use Rattle.sequence.proofs.bases.write_by_products.Statement.{statement}
+use Rattle.sequence.proofs.bases.write_by_products.Tie as tie
 
 abbrev Inv-loop : tie.InvT-loop
 Inv-loop sequence start count out₀ m₀ out m = (m ≤ count) × (length out ≡ length out₀) × (out ≡ writtenAt 0 (twoBitResidues sequence start (4 * m)) out₀)
@@ -108,8 +108,8 @@ returns c = let l = (c .before .loop) in
     let e : l .m ≡ (c .before .before .before .before .args) .count = omega arith in
     rw (← e) (l .inv .2)
 
-pub write-whole-spec : {M : Type 1} → statement M
-write-whole-spec =
+pub write-by-products-spec : {M : Type 1} → statement M
+write-by-products-spec =
     tie.close
     (tie.spec
     Inv-loop
