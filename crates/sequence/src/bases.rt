@@ -25,8 +25,8 @@ fn bases(byte: u8) -> [u8; 4]
     ]
 }
 
-// The least number of whole bytes whose bases are taken from the table. It is lent by laying it out on the stack, once for each sequence, for
-// which short ones have no time; and up to this length, whose residues a processor's nearest cache about holds, products are twice as fast.
+// The least number of whole bytes whose bases are taken from the table. It is laid out on the stack to be lent, once for each sequence, for
+// which short ones have no time; and up to this length, whose residues lie in a processor's nearest caches, products are twice as fast.
 const LONG: usize = 32768;
 
 // Writes the bases of whole bytes from a start on, each byte's by products.
