@@ -25,7 +25,7 @@ VERSION = $(shell sed -n 's/^\#define GULL_VERSION "\(.*\)"/\1/p' include/gullco
 LINK = $(CC) $(CPPFLAGS) $(WARNINGS) $(CFLAGS) $(LDFLAGS) -o $@ $(filter %.c,$^) build/libgullcordage.a -pthread $(LDLIBS)
 
 .DELETE_ON_ERROR:
-.PHONY: all prove lib timing programs man demo test edits wrong bench torture install uninstall clean
+.PHONY: all prove lib timing programs man demo test edits wrong bench torture install uninstall clean FORCE
 
 all: build/proved build/demo.txt man
 
@@ -93,12 +93,14 @@ edits:
 wrong: build/proved programs
 	tests/wrong/try
 
-# Of an earlier build of the library, its decoding under another name.
-build/bench/before.o: $(BEFORE)
+# Of an earlier build of the library, its decoding under another name; made anew each time, since BEFORE may name another one.
+build/bench/before.o: $(BEFORE) FORCE
 	@mkdir -p build/bench
 	$(LD) -r --whole-archive -o $@ $(BEFORE)
 	objcopy --redefine-sym gull_time_decode=before_decode $@
 	objcopy --keep-global-symbol=before_decode $@
+
+FORCE:
 
 build/bench/beside: build/bench/before.o
 

@@ -8,12 +8,11 @@
  * genomes in runs of a million bases, plain and with 1% N; short runs of 100 amino residues and of 150 bases. A volume's sequences are
  * such proteins, or DNA of 100 to 1,100 bases; its index has 0.3 to 50 MB, its sequence file up to 1.4 GB. Decoded are such proteins, one
  * long protein, one long DNA sequence, plain and with 1% N, and fifty plain ones of 400 bases; where an earlier build of the library is
- * linked (`make bench BEFORE=..`), the second reference is its decoding. The fifty sequences of a page
- * stand anywhere in a volume of 5,000 sequences of 400 residues, or of 500 of 100,000, DNA with 1% N, and of 2,000 such; as many pages are
- * fetched as the volume would fill, and the second reference is the library's own decoding, a call for each sequence. Nucleotides are
- * written from one sequence of bases, plain, with 1% N in stretches of 50 to 5,000, and with 10% ambiguous codes of every kind, scattered;
- * up to 10 million residues the table has entries of 32 bits, with 100 million of 64. A set's sequences are such proteins, or contigs of
- * 200 to 20,000 bases with 1% N. */
+ * linked (`make bench BEFORE=..`), the second reference is its decoding. The fifty sequences of a page stand anywhere in a volume of 5,000
+ * sequences of 400 residues, or of 500 of 100,000, DNA with 1% N, and of 2,000 such; as many pages are fetched as the volume would fill,
+ * and the second reference is the library's own decoding, a call for each sequence. Nucleotides are written from one sequence of bases,
+ * plain, with 1% N in stretches of 50 to 5,000, and with 10% ambiguous codes of every kind, scattered; up to 10 million residues the table
+ * has entries of 32 bits, with 100 million of 64. A set's sequences are such proteins, or contigs of 200 to 20,000 bases with 1% N. */
 #include "bench.h"
 
 #include <stdio.h>

@@ -67,16 +67,17 @@ static void agree_damaged(struct volume *v, int times)
     free(other);
 }
 
-/* The same with a correction moved to the end of the one before it or to the end of the sequence, or one residue to either side. */
+/* The same with one of the last three corrections moved to the end of the one before it or to the end of the sequence, or one residue to
+ * either side. */
 static void agree_corrections(struct volume *v, enum corrections c)
 {
     uint8_t *other = touched(v->residues);
-    size_t entry = c == WIDE ? 8 : 4;
-    for (int k = 1; k < 4; k++) {
-        uint8_t *at = v->sequence + v->sequence_len - 4 - entry * (size_t)(3 - k);
-        uint32_t was = be32(at), first = was - 1000 * (uint32_t)k; /* corrections of ten residues begin at each thousand */
+    uint32_t entry = c == WIDE ? 8 : 4, last = (uint32_t)(v->residues / 1000) - 1;
+    for (uint32_t k = last - 2; k <= last; k++) {
+        uint8_t *at = v->sequence + v->sequence_len - 4 - entry * (last - k);
+        uint32_t was = be32(at), first = was - 1000 * k; /* corrections of ten residues begin at each thousand */
         for (uint32_t more = 0; more < 3; more++) {
-            put_be(at, first + 1000 * (uint32_t)(k - 1) + 9 + more);
+            put_be(at, first + 1000 * (k - 1) + 9 + more);
             agree_decoding(v, other, 0, v->residues, "decoding moved corrections");
             put_be(at, first + (uint32_t)v->residues - 11 + more);
             agree_decoding(v, other, 0, v->residues, "decoding moved corrections");

@@ -1,27 +1,26 @@
 -- The bases of whole bytes from a table: one test over all entries, and what a pair of entries writes. Assumes nothing.
-use mathlib.Core.Path.{_≡_, refl, sym, ap, _∙_}
+use mathlib.Core.Path.{_≡_, refl, sym, ap, ap₂, _∙_}
 use mathlib.Core.Bool.{Bool, true}
-use mathlib.Core.List.{List, [], _∷_, _++_, append-nil, append-assoc}
+use mathlib.Core.List.{List, [], _∷_, _++_}
 use Prim.Native.Nat.{ℕ, zero, suc, _+_, _*_, _-_, _/_, _%_, _^_, _≤_, _<_}
 use native.Mathlib.Nat.{pow-suc, mul-assoc}
 use native.Mathlib.Omega.{arith}
 use borrow.Author.Tests.{eqb-true, eq-eqb}
-use borrow.Rule.Slice.PartMut.{midOf, postOf, putMid, post-is, mid-len}
+use borrow.Rule.Slice.PartMut.{midOf, postOf, putMid, mid-len}
 use lib.Dec.{eqb}
-use lib.ListN.{length, getD, take, drop}
-use lib.Seq.{drop-length}
+use lib.ListN.{length, getD, take, drop, take-append-drop}
 use Rattle.laws.specs.Digits.{digits}
 use Rattle.laws.specs.Places.{every, listTo}
 use Rattle.laws.specs.Writing.{writtenAt}
 use Rattle.laws.proofs.Places.{every-at, every-all, listTo-append}
-use Rattle.laws.proofs.Storing.{written-start}
+use Rattle.laws.proofs.Storing.{written-append, written-behind}
 use Rattle.laws.proofs.Tests.{both-pass}
 use Rattle.fields.specs.Number.{number, little}
 use Rattle.fields.specs.Written.{littleBytes, numberPut}
 use Rattle.fields.proofs.Laws.{little-cons, word-bytes, length-little, put-fits}
 use Rattle.sequence.specs.Bases.{basesOf, baseAt, twoBitResidues}
 use Rattle.sequence.specs.BaseTable.{BaseTable, isBaseTable}
-use Rattle.sequence.proofs.Blocks.{store-block}
+use Rattle.sequence.proofs.Blocks.{block-stored}
 use Rattle.sequence.proofs.FourBases.{list₄, base-is}
 
 -- ---- the rule of a table, and the test that is computed over all of it
@@ -71,13 +70,12 @@ four-from sequence start at m k e h =
     λ j l. ap (λ (x : ℕ). getD (basesOf (getD sequence x 0)) j 0) e ∙ base-is sequence start (k j) m j (h j) l in
     list₄ (base 0 (omega arith)) (base 1 (omega arith)) (base 2 (omega arith)) (base 3 (omega arith))
 
-both : {a b x y : List ℕ} → a ≡ x → b ≡ y → a ++ b ≡ x ++ y
-both e f = rw (e, f)
-
 -- those of two bytes are the first eight
 pub pair-from : (sequence : List ℕ) (at : ℕ) → basesOf (getD sequence at 0) ++ basesOf (getD sequence (at + 1) 0) ≡ twoBitResidues sequence at 8
 pair-from sequence at =
-    both (four-from sequence at at 0 (λ i. i) (omega arith) (λ j. omega arith)) (four-from sequence at (at + 1) 1 (λ i. 4 + i) refl (λ j. omega arith))
+    let first = four-from sequence at at 0 (λ i. i) (omega arith) (λ j. omega arith) in
+    let second = four-from sequence at (at + 1) 1 (λ i. 4 + i) refl (λ j. omega arith) in
+    ap₂ (λ (x y : List ℕ). x ++ y) first second
     ∙ sym (listTo-append (baseAt sequence at) 4 4)
 
 -- the bytes of an entry are the codes of its byte
@@ -87,26 +85,22 @@ entry-codes table b h l = ap (littleBytes 4) (h .codes b l) ∙ entry-bytes b
 -- the bytes of two entries that are joined are the codes of both bytes
 pub pair-codes : (table : List ℕ) (a b r : ℕ) → BaseTable table → a < 256 → b < 256
     → littleBytes 8 r ≡ littleBytes 4 (getD table a 0) ++ littleBytes 4 (getD table b 0) → littleBytes 8 r ≡ basesOf a ++ basesOf b
-pair-codes table a b r h i j e = e ∙ both (entry-codes table a h i) (entry-codes table b h j)
+pair-codes table a b r h i j e = e ∙ ap₂ (λ (x y : List ℕ). x ++ y) (entry-codes table a h i) (entry-codes table b h j)
 
 -- a number stored in the part of an output that is its own
 pub part-stored : (w place n : ℕ) (out part new : List ℕ) → place + w ≤ length out → littleBytes w n ≡ new
     → part ≡ numberPut little w 0 n (midOf place (place + w - place) out) → putMid place (place + w - place) out part ≡ writtenAt place new out
 part-stored w place n out part new h e g =
     let own = midOf place (place + w - place) out in
+    let behind = postOf place (place + w - place) out in
     let a : length own ≡ w = mid-len place (place + w) out h ∙ omega arith in
     let b : length new ≡ w = ap length (sym e) ∙ length-little w n in
-    let none : drop (length new) own ≡ [] = ap (λ (m : ℕ). drop m own) (b ∙ sym a) ∙ drop-length own in
-    let all : part ≡ new =
-    g
-    ∙ put-fits little w 0 n own (omega arith)
-    ∙ ap (λ (l : List ℕ). writtenAt 0 l own) e
-    ∙ written-start new own
-    ∙ ap (λ (l : List ℕ). new ++ l) none
-    ∙ append-nil new in
-    let behind : postOf place (place + w - place) out ≡ drop (place + length new) out =
-    post-is place (place + w) out (omega arith) ∙ ap (λ (m : ℕ). drop (place + m) out) (sym b) in
-    ap (λ (l : List ℕ). take place out ++ l) (both all behind) ∙ sym (append-assoc (take place out) new (drop (place + length new) out))
+    let stored : part ≡ writtenAt 0 new own = g ∙ put-fits little w 0 n own (omega arith) ∙ ap (λ (l : List ℕ). writtenAt 0 l own) e in
+    let rest : part ++ behind ≡ writtenAt 0 new (drop place out) =
+    ap (λ (l : List ℕ). l ++ behind) stored
+    ∙ sym (written-append 0 new own behind (omega arith))
+    ∙ ap (writtenAt 0 new) (take-append-drop (place + w - place) (drop place out)) in
+    ap (λ (l : List ℕ). take place out ++ l) rest ∙ written-behind place new out
 
 -- ---- residues written behind those before
 
@@ -120,16 +114,13 @@ base-later sequence start j i =
 
 residues-later : (sequence : List ℕ) (start j n : ℕ) → twoBitResidues sequence (start + j) n ≡ listTo (λ i. baseAt sequence start (4 * j + i)) n
 residues-later sequence start j zero = refl
-residues-later sequence start j (suc n) = both (residues-later sequence start j n) (ap (λ (x : ℕ). x ∷ []) (base-later sequence start j n))
+residues-later sequence start j (suc n) =
+    ap₂ (λ (x : List ℕ) (b : ℕ). x ++ (b ∷ [])) (residues-later sequence start j n) (base-later sequence start j n)
 
 -- n residues from byte j on, stored behind the m before and over some of them
 pub residues-stored : (sequence : List ℕ) (start p j m n t place : ℕ) (d before after : List ℕ) → before ≡ writtenAt p (twoBitResidues sequence start m) d
     → after ≡ writtenAt place (twoBitResidues sequence (start + j) n) before → place ≡ p + 4 * j → 4 * j ≤ m → m ≤ t → t ≡ 4 * j + n → p + t ≤ length d
     → after ≡ writtenAt p (twoBitResidues sequence start t) d
-residues-stored sequence start p j m n t place d before after e g i a b h l =
-    g
-    ∙ ap (λ (o : List ℕ). writtenAt place (twoBitResidues sequence (start + j) n) o) e
-    ∙ ap (λ (q : ℕ). writtenAt q (twoBitResidues sequence (start + j) n) (writtenAt p (twoBitResidues sequence start m) d)) i
-    ∙ ap (λ (r : List ℕ). writtenAt (p + 4 * j) r (writtenAt p (twoBitResidues sequence start m) d)) (residues-later sequence start j n)
-    ∙ store-block (baseAt sequence start) p (4 * j) m n d a (omega arith) (omega arith)
-    ∙ ap (λ (q : ℕ). writtenAt p (twoBitResidues sequence start q) d) (sym h)
+residues-stored sequence start p j m n t place d before after e g =
+    block-stored (baseAt sequence start) p (4 * j) m n t place d before after e
+    (g ∙ ap (λ (r : List ℕ). writtenAt place r before) (residues-later sequence start j n))

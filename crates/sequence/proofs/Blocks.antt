@@ -5,7 +5,7 @@ use mathlib.Core.Bool.{Bool, true}
 use mathlib.Core.List.{List, [], _∷_, _++_, append-nil}
 use mathlib.Core.Logic.{⊎-elim}
 use Prim.Native.Nat.{ℕ, zero, suc, _+_, _-_, _≤_, _<_}
-use native.Mathlib.Nat.{zero-add, eq-or-lt-of-le, le-of-suc-le-suc}
+use native.Mathlib.Nat.{eq-or-lt-of-le, le-of-suc-le-suc}
 use native.Mathlib.Omega.{arith}
 use borrow.Author.Tests.{eqb-true}
 use lib.Dec.{eqb}
@@ -69,14 +69,14 @@ module _ (f : ℕ → ℕ) where
       ∙ ap (λ (l : List ℕ). writtenAt p (l ++ listTo (λ i. f (k + i)) n) d) (take-listTo k m a)
       ∙ ap (λ (l : List ℕ). writtenAt p l d) (sym (listTo-append f k n))
 
-  -- the same from the front, for an output as a call left it
-  pub block-stored : (k m n t : ℕ) (d before after : List ℕ) → before ≡ writtenAt 0 (listTo f m) d → after ≡ writtenAt k (listTo (λ i. f (k + i)) n) before
-      → k ≤ m → m ≤ t → t ≡ k + n → t ≤ length d → after ≡ writtenAt 0 (listTo f t) d
-  block-stored k m n t d before after e g a b i h =
-      let z : 0 + k ≡ k = zero-add k in
+  -- the same for an output as a call left it
+  pub block-stored : (p k m n t place : ℕ) (d before after : List ℕ) → before ≡ writtenAt p (listTo f m) d
+      → after ≡ writtenAt place (listTo (λ i. f (k + i)) n) before → place ≡ p + k → k ≤ m → m ≤ t → t ≡ k + n → p + t ≤ length d
+      → after ≡ writtenAt p (listTo f t) d
+  block-stored p k m n t place d before after e g i a b l h =
       let new = listTo (λ i. f (k + i)) n in
       g
-      ∙ ap (λ (o : List ℕ). writtenAt k new o) e
-      ∙ sym (ap (λ (q : ℕ). writtenAt q new (writtenAt 0 (listTo f m) d)) z)
-      ∙ store-block 0 k m n d a (omega arith) (omega arith)
-      ∙ ap (λ (q : ℕ). writtenAt 0 (listTo f q) d) (sym i)
+      ∙ ap (λ (o : List ℕ). writtenAt place new o) e
+      ∙ ap (λ (q : ℕ). writtenAt q new (writtenAt p (listTo f m) d)) i
+      ∙ store-block p k m n d a (omega arith) (omega arith)
+      ∙ ap (λ (q : ℕ). writtenAt p (listTo f q) d) (sym l)

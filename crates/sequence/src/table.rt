@@ -271,11 +271,11 @@ const BASES: [u32; 256] = [
     0x03030303,
 ];
 
-// Two numbers of four bytes as one of eight.
-fn joined(low: u32, high: u32) -> u64
-    ensures { λ r. ⌜ numberBytes little 8 r ≡ numberBytes little 4 low ++ numberBytes little 4 high ⌝ }
+// Two entries as one number: the bytes of the first, and behind them those of the second.
+fn two_entries(first: u32, second: u32) -> u64
+    ensures { λ r. ⌜ numberBytes little 8 r ≡ numberBytes little 4 first ++ numberBytes little 4 second ⌝ }
 {
-    (low as u64) + (high as u64) * 4294967296
+    (first as u64) + (second as u64) * 4294967296
 }
 
 // The bases of two bytes, as the bytes of one number.
@@ -283,7 +283,7 @@ fn pair(table: &[u32], first: u8, second: u8) -> u64
     requires { ⌜ BaseTable (now table) ⌝ }
     ensures { λ r. ⌜ numberBytes little 8 r ≡ basesOf first ++ basesOf second ⌝ }
 {
-    joined(table[first as usize], table[second as usize])
+    two_entries(table[first as usize], table[second as usize])
 }
 
 // Writes the bases of two bytes at a place of the output.

@@ -58,8 +58,8 @@ loop-again c =
     let l = (c .before .before .before .before .before .loop) in (
       omega arith,
       (c .before .out2) .given ∙ l .inv .1,
-      block-stored (residue s) (l .k) (l .k) 16 _ (now (s .args .out)) (l .out) _ (l .inv .2) ((c .before .before .put-sixteen) .ensures)
-          (omega arith) (omega arith) refl (omega arith),
+      block-stored (residue s) 0 (l .k) (l .k) 16 (l .k + 16) (l .k) (now (s .args .out)) (l .out) _ (l .inv .2)
+          ((c .before .before .put-sixteen) .ensures) (omega arith) (omega arith) (omega arith) refl (omega arith),
     )
 
 put-sixteen-requires-2 : tie.Need-put-sixteen-requires-2 Inv-loop μ-loop
@@ -75,9 +75,9 @@ returns-2 : tie.Need-returns-2 Inv-loop μ-loop
 returns-2 c =
     let s = c .before .before .before .before .before .before .before .before .before in
     let l = (c .before .before .before .before .before .loop) in
-    block-stored (residue s) (s .args .l - 16) (l .k) 16 (s .args .l) (now (s .args .out)) (l .out) _ (l .inv .2)
-    ((c .before .before .put-sixteen2) .ensures) (omega arith)
-    (omega arith) (omega arith) (omega arith)
+    let last = s .args .l - 16 in
+    block-stored (residue s) 0 last (l .k) 16 (s .args .l) last (now (s .args .out)) (l .out) _ (l .inv .2)
+    ((c .before .before .put-sixteen2) .ensures) (omega arith) (omega arith) (omega arith) (omega arith) (omega arith)
 
 pub write-proteins-spec : {M : Type 1} → statement M
 write-proteins-spec =

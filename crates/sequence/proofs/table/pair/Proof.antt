@@ -5,35 +5,35 @@ use borrow.Author.Needs.{needs}
 use Rattle.sequence.proofs.table.pair.Statement.{statement}
 use Rattle.sequence.proofs.table.pair.Tie as tie
 
-mul-joined : tie.Need-mul-joined
-mul-joined c = search needs
+mul-two-entries : tie.Need-mul-two-entries
+mul-two-entries c = search needs
 
-shared-slice-read-joined : tie.Need-shared-slice-read-joined
-shared-slice-read-joined c = search needs
+shared-slice-read-two-entries : tie.Need-shared-slice-read-two-entries
+shared-slice-read-two-entries c = search needs
 
-mul-joined-2 : tie.Need-mul-joined-2
-mul-joined-2 c = search needs
+mul-two-entries-2 : tie.Need-mul-two-entries-2
+mul-two-entries-2 c = search needs
 
-shared-slice-read-joined-2 : tie.Need-shared-slice-read-joined-2
-shared-slice-read-joined-2 c = search needs
+shared-slice-read-two-entries-2 : tie.Need-shared-slice-read-two-entries-2
+shared-slice-read-two-entries-2 c = search needs
 
-joined-requires : tie.Need-joined-requires
-joined-requires c κs = search needs
+two-entries-requires : tie.Need-two-entries-requires
+two-entries-requires c κs = search needs
 
 returns : tie.Need-returns
 returns c =
     let start = c .before .before .before .before in
     let a = start .args in
     let f = start .fits in
-    pair-codes (now (a .table)) (a .first) (a .second) (c .joined .result) (start .pre) (f .first .fits) (f .second .fits) (c .joined .ensures)
+    pair-codes (now (a .table)) (a .first) (a .second) (c .two-entries .result) (start .pre) (f .first .fits) (f .second .fits) (c .two-entries .ensures)
 
 pub pair-spec : {M : Type 1} → statement M
 pair-spec =
     tie.close
     (tie.spec
-    mul-joined
-    shared-slice-read-joined
-    mul-joined-2
-    shared-slice-read-joined-2
-    joined-requires
+    mul-two-entries
+    shared-slice-read-two-entries
+    mul-two-entries-2
+    shared-slice-read-two-entries-2
+    two-entries-requires
     returns)
