@@ -27,9 +27,9 @@ extern "C" {
 
 /* The version of this header and of the library and the programs beside it. */
 #define GULL_VERSION_MAJOR 0
-#define GULL_VERSION_MINOR 4
-#define GULL_VERSION_PATCH 1
-#define GULL_VERSION "0.4.1"
+#define GULL_VERSION_MINOR 5
+#define GULL_VERSION_PATCH 0
+#define GULL_VERSION "0.5.0"
 
 /* Answers. */
 enum {

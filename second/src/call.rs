@@ -52,6 +52,8 @@ pub const CONSOLE_UNPACK: u8 = 12;
 pub const PAGE: u8 = 13;
 pub const WRITE_NUCLEOTIDES: u8 = 14;
 pub const BASES_OF_CODE: u8 = 15;
+// 16 to 22 are kept for later requests.
+pub const KIND_NAME: u8 = 23;
 
 /// How a call's 22 is shown to come: ranges in the protocol are too small for it.
 #[derive(Clone, Copy, Debug, PartialEq, Eq)]
@@ -59,7 +61,7 @@ pub enum Large {
     CFunction,
     Timing,
     Contract,
-    NoRange,
+    NoInput,
 }
 
 impl Large {
@@ -68,7 +70,7 @@ impl Large {
             Large::CFunction => "in face, through the C function",
             Large::Timing => "in face, through the timing library",
             Large::Contract => "by contract only",
-            Large::NoRange => "cannot be: no range is lent",
+            Large::NoInput => "cannot be: no input range",
         }
     }
 }
@@ -85,7 +87,7 @@ pub struct Signature {
 
 use Kind::{Number, NumberList, NumberOutput, Output, PacketOutput, PacketRange, Range};
 
-pub const SIGNATURES: [Signature; 15] = [
+pub const SIGNATURES: [Signature; 16] = [
     Signature {
         byte: VOLUME_CHECK,
         name: "volume check",
@@ -191,7 +193,14 @@ pub const SIGNATURES: [Signature; 15] = [
         name: "bases of a code",
         kinds: &[Number],
         numbers: &[0, 18],
-        large: Large::NoRange,
+        large: Large::NoInput,
+    },
+    Signature {
+        byte: KIND_NAME,
+        name: "kind name",
+        kinds: &[Number, Output],
+        numbers: &[0, 4, 13],
+        large: Large::NoInput,
     },
 ];
 

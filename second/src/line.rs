@@ -4,7 +4,7 @@ use crate::answers::Answer;
 use crate::call::*;
 use crate::console::{console_check_volume, console_pack, console_unpack};
 use crate::dsqdata::check_set;
-use crate::headers::{Identifier, ObjectId, GI, LOCAL};
+use crate::identifiers::kind_name;
 use crate::lookup::lookup;
 use crate::nucleotides::{bases_of_code, write_nucleotides};
 use crate::page::fetch_page;
@@ -12,6 +12,7 @@ use crate::records::{identifier, label, label_bytes, walker_step};
 use crate::runs::{pack, unpack, RunSize};
 use crate::sequence::decode;
 use crate::stream::{hex, number_hex, packet_hex};
+use crate::values::identifier_values;
 use crate::volume::check_volume;
 
 /// The answer number, the results on success, and every output after the call.
@@ -32,6 +33,7 @@ pub fn line_of(call: &Call) -> String {
         PAGE => page_line(call),
         WRITE_NUCLEOTIDES => write_nucleotides_line(call),
         BASES_OF_CODE => bases_of_code_line(call),
+        KIND_NAME => kind_name_line(call),
         other => panic!("no line for call {other}"),
     }
 }
@@ -48,12 +50,13 @@ pub fn done_of(line: &str) -> Option<usize> {
 
 /// Fields by one space: the number, the results where there are any, the outputs.
 fn join(answer: Answer<Vec<i128>>, outputs: &[String]) -> String {
+    join_words(answer.map(|values| values.iter().map(i128::to_string).collect()), outputs)
+}
+
+/// The same where a result may be a word.
+fn join_words(answer: Answer<Vec<String>>, outputs: &[String]) -> String {
     let mut fields = match answer {
-        Ok(values) => {
-            let mut fields = vec!["0".to_string()];
-            fields.extend(values.iter().map(i128::to_string));
-            fields
-        }
+        Ok(values) => [vec!["0".to_string()], values].concat(),
         Err(number) => vec![number.to_string()],
     };
     fields.extend(outputs.iter().cloned());
@@ -100,17 +103,7 @@ fn lookup_line(call: &Call) -> String {
 
 fn identifier_line(call: &Call) -> String {
     let answer = identifier(call.range(0), call.number(1), call.number(2), call.number(3));
-    join(answer.map(identifier_values), &[])
-}
-
-/// The kind byte; then for local 0 and the number, or 1 and the text's start and length; for gi the number.
-fn identifier_values(identifier: Identifier) -> Vec<i128> {
-    match identifier {
-        Identifier::Local(ObjectId::Number(value)) => vec![LOCAL as i128, 0, value],
-        Identifier::Local(ObjectId::Text(part)) => vec![LOCAL as i128, 1, part.start, part.length],
-        Identifier::Gi(value) => vec![GI as i128, value],
-        Identifier::Other(tag) => vec![tag as i128],
-    }
+    join_words(answer.map(identifier_values), &[])
 }
 
 fn walker_step_line(call: &Call) -> String {
@@ -161,4 +154,10 @@ fn write_nucleotides_line(call: &Call) -> String {
 
 fn bases_of_code_line(call: &Call) -> String {
     join(bases_of_code(call.number(0)).map(|bases| vec![bases]), &[])
+}
+
+fn kind_name_line(call: &Call) -> String {
+    let mut output = call.output(1);
+    let answer = kind_name(call.number(0), &mut output);
+    join(answer.map(|length| vec![length]), &[hex(&output)])
 }

@@ -2,7 +2,8 @@
 
 use crate::answers::*;
 use crate::elements::read_record;
-use crate::headers::{def_lines, DefLine, Identifier};
+use crate::headers::{def_lines, DefLine};
+use crate::identifiers::Identifier;
 use crate::index::{read_index, Part};
 
 /// The def-lines of a record: 1 if it does not fit the file, then 20 or 21.

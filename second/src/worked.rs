@@ -121,19 +121,25 @@ fn integers() -> Vec<WorkedRow> {
     ]
 }
 
-/// A record with a title and an identifier whose body goes down from depth 6, list by list, to an integer.
-fn nested(lists: usize) -> Vec<u8> {
+/// A def-line with a title and an identifier whose body goes down from depth 6, list by list, to an integer.
+fn nested(lists: usize) -> String {
     let (begin, end) = ("3080".repeat(lists), "0000".repeat(lists));
     let title = "A080 1A0141 0000";
-    hex(&format!("3080 3080 {title} A180 3080 A480 {begin} 020105 {end} 0000 0000 0000 0000 0000"))
+    format!("3080 {title} A180 3080 A480 {begin} 020105 {end} 0000 0000 0000 0000")
 }
 
+/// No record of 001 has an element at depth 16: what passes the nesting has a wrong shape since request 2026-05. That it
+/// does pass shows where depth 17 stands behind it.
 fn depths() -> Vec<WorkedRow> {
-    let (last, beyond) = (nested(10), nested(11));
+    let record = |lines: &str| hex(&format!("3080 {lines} 0000"));
+    let last = record(&nested(10));
+    let beyond = record(&nested(11));
+    let behind = record(&format!("{} {}", nested(10), nested(11)));
     vec![
-        row("Run only: depth 16 passes", first_title(&last), "0 8 1"),
-        row("Run only: depth 16 passes", first_identifier(&last), "0 164"),
-        row("Run only: depth 16 passes", first_label(&last), "0 41"),
+        row("Run only: depth 16 is not 21", first_title(&last), "20"),
+        row("Run only: depth 16 is not 21", first_identifier(&last), "20"),
+        row("Run only: depth 16 is not 21", first_label(&last), "20 -"),
+        row("Run only: depth 16 passes, 17 is 21", first_title(&behind), "21"),
         row("Run only: depth 17 is 21", first_title(&beyond), "21"),
         row("Run only: depth 17 is 21", first_identifier(&beyond), "21"),
         row("Run only: depth 17 is 21", first_label(&beyond), "21 -"),

@@ -39,6 +39,7 @@ fn document(byte: u8, title: &str) -> Vec<u32> {
         // Between the two stands the second 22, which no range of the protocol reaches.
         (WRITE_NUCLEOTIDES, "bases alone" | "with a table") => vec![18, 13],
         (BASES_OF_CODE, _) => vec![18],
+        (KIND_NAME, _) => vec![4, 13],
         (UNPACK, _) => vec![3, 17, 13],
         (CONSOLE_UNPACK, _) => vec![1, 3, 17, 13],
         (SET_CHECK, _) => vec![1, 14, 1, 14, 1, 14, 15, 3, 4, 1, 6, 1, 7, 17, 19, 9],

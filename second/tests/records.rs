@@ -5,7 +5,7 @@ mod common;
 use common::bytes;
 use second::answers::*;
 use second::elements::{read_record, Element};
-use second::headers::{Identifier, ObjectId};
+use second::identifiers::{Identifier, ObjectId, PdbSeqId, TextseqId};
 use second::index::Part;
 use second::records::{identifier, label, label_bytes, walker_step, Label};
 
@@ -95,37 +95,30 @@ fn the_record_with_every_field() {
     assert_eq!(title(2), Err(NO_SUCH_NUMBER));
     let found = |number| identifier(&record, 0, end, number);
     assert_eq!(found(0), Ok(Identifier::Gi(77)));
-    assert_eq!(found(1), Ok(Identifier::Other(0xA4)));
-    assert_eq!(found(2), Ok(Identifier::Other(0xAE)));
+    let [name, accession] = [Part { start: 45, length: 3 }, Part { start: 54, length: 6 }].map(Some);
+    let genbank = TextseqId { name, accession, release: None, version: Some(1) };
+    assert_eq!(found(1), Ok(Identifier::Genbank(genbank)));
+    let mol = Part { start: 148, length: 4 };
+    assert_eq!(found(2), Ok(Identifier::Pdb(PdbSeqId { mol, chain: 65, rel: None })));
     assert_eq!(found(3), Ok(Identifier::Local(ObjectId::Number(42))));
     assert_eq!(found(4), Err(NO_SUCH_NUMBER));
 }
 
 #[test]
-fn every_real_record_is_good() {
-    let mut kinds = std::collections::BTreeSet::new();
+fn every_real_record_is_good_but_three() {
+    // makeblastdb writes a pdb field A3, which 001 does not list.
+    let bad = [("mb_protidt", 2), ("mb_protidt", 3), ("mb_nucidt", 18)];
     for volume in common::samples().volumes.into_iter().filter(|volume| !volume.lines.is_empty()) {
         for number in 0..volume.lines.len() {
             let answer = label(&volume.index, &volume.header, number as i128);
+            if bad.contains(&(&volume.name[..], number)) {
+                assert_eq!(answer, Err(BAD_RECORD), "{} {number}", volume.name);
+                continue;
+            }
             let in_index = matches!(answer.unwrap(), Label::InIndex(_));
             assert_eq!(in_index, volume.name == "fd_titles" && number == 0, "{} {number}", volume.name);
-            let index = second::index::read_index(&volume.index).unwrap();
-            let (start, end) = (index.header_offsets[number], index.header_offsets[number + 1]);
-            for k in 0.. {
-                let tag = match identifier(&volume.header, start, end, k) {
-                    Ok(Identifier::Local(_)) => 0xA0,
-                    Ok(Identifier::Gi(_)) => 0xAB,
-                    Ok(Identifier::Other(tag)) => tag,
-                    Err(number) => {
-                        assert_eq!(number, NO_SUCH_NUMBER);
-                        break;
-                    }
-                };
-                kinds.insert(tag);
-            }
         }
     }
-    assert!(kinds.len() >= 17, "{kinds:02X?}");
 }
 
 #[test]

@@ -1,6 +1,7 @@
 // Reads calls from standard input, runs them, and writes a line for each.
 use input::Stream;
 
+mod identifiers;
 mod input;
 mod output;
 mod packing;
@@ -31,6 +32,7 @@ fn run_case(call: u8) -> Stream {
         13 => page::fetch_page(),
         14 => writing::write_nucleotides(),
         15 => writing::bases_of_code(),
+        23 => identifiers::kind_name(),
         _ => Stream::Unknown,
     }
 }

@@ -1,4 +1,5 @@
 // The header record calls: 7 identifier, 8 walker step, 9 label.
+use crate::identifiers::put_identifier;
 use crate::input::Stream;
 use crate::input::Taken;
 use crate::input::goes_on;
@@ -11,40 +12,8 @@ use crate::output::put_hex;
 use crate::output::put_next;
 use crate::output::put_number;
 use crate::output::put_refusal;
-use crate::output::put_signed;
-use deflines::Identifier;
 use deflines::IdentifierAnswer;
-use deflines::ObjectId;
 use deflines::TitleAnswer;
-
-fn put_object(object: ObjectId) {
-    match object {
-        ObjectId::Number(n) => {
-            put_next(0);
-            put_signed(n);
-        }
-        ObjectId::Text(span) => {
-            put_next(1);
-            put_next(span.start as u64);
-            put_next(span.len as u64);
-        }
-    }
-}
-
-// A kind, as its tag byte, and what is read of its body.
-fn put_identifier(identifier: Identifier) {
-    match identifier {
-        Identifier::Gi(n) => {
-            put_next(171);
-            put_signed(n);
-        }
-        Identifier::Local(object) => {
-            put_next(160);
-            put_object(object);
-        }
-        Identifier::Other(tag) => put_next(tag as u64),
-    }
-}
 
 fn put_identifier_answer(answer: IdentifierAnswer) {
     match answer {

@@ -18,7 +18,8 @@ use Rattle.deflines.specs.declared.TitleSearch.{TitleSearch}
 use Rattle.deflines.specs.declared.TitleSearch.the-variants as A
 use Rattle.deflines.specs.declared.PlaceSearch.the-variants as P
 use Rattle.deflines.specs.Fields.{elementsIn, titlesIn, firstTitles}
-use Rattle.deflines.specs.Calls.{titleFrom, placeFrom, titleIn, titleOf, identifierIn, identifierOf, firstIn, firstOf}
+use Rattle.deflines.specs.Numbered.{titleFrom, placeFrom}
+use Rattle.deflines.specs.Calls.{titleIn, titleOf, identifierIn, identifierOf, firstIn, firstOf}
 use Rattle.deflines.proofs.Walks.{elements-each, place-room}
 
 -- ---- the first def-line

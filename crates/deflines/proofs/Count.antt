@@ -15,7 +15,8 @@ use Rattle.deflines.specs.declared.Field.the-variants as L
 use Rattle.deflines.specs.declared.TitleAnswer.the-variants as T
 use Rattle.deflines.specs.declared.TitleSearch.the-variants as A
 use Rattle.deflines.specs.Fields.{fromNext, elementsFrom, elementsIn, fieldAt, fieldTitles, titlesIn, titlesOf}
-use Rattle.deflines.specs.Calls.{titleFrom, titleGiven, titleIn, titleOf}
+use Rattle.deflines.specs.Numbered.{titleFrom}
+use Rattle.deflines.specs.Calls.{titleGiven, titleIn, titleOf}
 use Rattle.deflines.proofs.Walks.{next-cases}
 use Rattle.deflines.proofs.Calls.{passed-small}
 

@@ -19,7 +19,7 @@ use Rattle.deflines.specs.declared.Field.{Field}
 use Rattle.deflines.specs.declared.Field.the-variants as L
 use Rattle.deflines.specs.declared.PlaceSearch.{PlaceSearch}
 use Rattle.deflines.specs.Fields.{elementsIn, titleField, fieldAt, fieldTitles, fieldIdentifiers}
-use Rattle.deflines.specs.Calls.{placeFrom}
+use Rattle.deflines.specs.Numbered.{placeFrom}
 
 -- ---- by the tag
 

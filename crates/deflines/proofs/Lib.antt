@@ -2,7 +2,9 @@ pub mod Lists
 pub mod Walks
 pub mod Fields
 pub mod Identifiers
+pub mod Chains
+pub mod Bodies
 pub mod Calls
 pub mod Count
-pub mod Written
 pub mod Within
+pub mod Written

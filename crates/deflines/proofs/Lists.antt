@@ -2,7 +2,7 @@
 use mathlib.Core.Path.{_≡_, refl}
 use mathlib.Core.List.{List, [], _∷_, _++_, map, flatMap}
 use Prim.Native.Nat.{ℕ, zero, suc}
-use Rattle.deflines.specs.Calls.{numbered}
+use Rattle.deflines.specs.Numbered.{numbered}
 
 -- what is made of number k afterwards can be made of it at once
 pub numbered-then : {X Y Z : Type 0} (h : Y → Z) (found : X → Y) (left : ℕ → Y) (xs : List X) (k : ℕ)

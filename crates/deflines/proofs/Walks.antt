@@ -19,7 +19,7 @@ use Rattle.deflines.specs.declared.TitleSearch.the-variants as A
 use Rattle.deflines.specs.declared.PlaceSearch.{PlaceSearch}
 use Rattle.deflines.specs.declared.PlaceSearch.the-variants as P
 use Rattle.deflines.specs.Fields.{nextRead, nextAt, fromNext, elementsFrom, elementsLeft}
-use Rattle.deflines.specs.Calls.{numbered, placeFrom}
+use Rattle.deflines.specs.Numbered.{numbered, placeFrom}
 use Rattle.deflines.proofs.Lists.{Each, each-number}
 
 -- ---- what comes next in a list

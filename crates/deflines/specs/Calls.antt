@@ -1,24 +1,14 @@
 -- What the calls over one record answer: a title after so many, an identifier by its number, the first def-line's title.
 -- Assumes nothing.
-use Prim.Native.Nat.{ℕ, zero, suc, _+_}
-use mathlib.Core.Bool.{cond}
-use mathlib.Core.List.{List, [], _∷_}
-use lib.ListN.{getD, take}
-use lib.Dec.{eqb}
+use Prim.Native.Nat.{ℕ}
+use mathlib.Core.List.{List}
+use lib.ListN.{take}
 use Rattle.answers.specs.declared.Refusal.the-variants.{NoSuchSequence}
 use Rattle.answers.specs.declared.Checked.{Checked}
 use Rattle.answers.specs.declared.Checked.the-variants as C
-use Rattle.elements.specs.declared.Span.{Span}
-use Rattle.elements.specs.declared.SpanAnswer.{SpanAnswer}
-use Rattle.elements.specs.declared.SpanAnswer.the-variants as S
-use Rattle.elements.specs.declared.IntegerAnswer.{IntegerAnswer}
-use Rattle.elements.specs.declared.IntegerAnswer.the-variants as N
-use Rattle.elements.specs.Parts.{integerAt, textAt}
 use Rattle.headers.specs.Record.{checkRecord}
 use Rattle.deflines.specs.declared.TitleAnswer.{TitleAnswer}
 use Rattle.deflines.specs.declared.TitleAnswer.the-variants as T
-use Rattle.deflines.specs.declared.ObjectId.the-variants as O
-use Rattle.deflines.specs.declared.Identifier.the-variants as D
 use Rattle.deflines.specs.declared.IdentifierAnswer.{IdentifierAnswer}
 use Rattle.deflines.specs.declared.IdentifierAnswer.the-variants as I
 use Rattle.deflines.specs.declared.FirstAnswer.{FirstAnswer}
@@ -27,20 +17,9 @@ use Rattle.deflines.specs.declared.TitleSearch.{TitleSearch}
 use Rattle.deflines.specs.declared.TitleSearch.the-variants as A
 use Rattle.deflines.specs.declared.PlaceSearch.{PlaceSearch}
 use Rattle.deflines.specs.declared.PlaceSearch.the-variants as P
+use Rattle.deflines.specs.Numbered.{titleFrom, placeFrom}
 use Rattle.deflines.specs.Fields.{titlesOf, identifiersOf, firstTitles}
-
--- Number k of a list, from 0: what `found` makes of it; where the list is shorter, what `left` makes of how many are left to pass.
-abbrev pub numbered : {X Y : Type 0} → List X → ℕ → (X → Y) → (ℕ → Y) → Y
-numbered [] k found left = left k
-numbered (x ∷ xs) zero found left = found x
-numbered (x ∷ xs) (suc k) found left = numbered xs k found left
-
--- Title k of a list, and place k of a list.
-abbrev pub titleFrom : List Span → ℕ → TitleSearch
-titleFrom titles k = numbered titles k A.Found A.Left
-
-abbrev pub placeFrom : List ℕ → ℕ → PlaceSearch
-placeFrom places k = numbered places k P.Found P.Left
+use Rattle.deflines.specs.Identifiers.{identifierAt}
 
 -- ---- titles
 
@@ -59,32 +38,9 @@ titleOf header start end given = titleIn (take end header) start given (checkRec
 
 -- ---- identifiers
 
--- A gi number, and a local name that is a number or text.
-abbrev pub giAnswer : IntegerAnswer → IdentifierAnswer
-giAnswer (N.Integer z) = I.Found (D.Gi z)
-giAnswer (N.Refused r) = I.Refused r
-
-abbrev pub numberAnswer : IntegerAnswer → IdentifierAnswer
-numberAnswer (N.Integer z) = I.Found (D.Local (O.Number z))
-numberAnswer (N.Refused r) = I.Refused r
-
-abbrev pub textAnswer : SpanAnswer → IdentifierAnswer
-textAnswer (S.Part t) = I.Found (D.Local (O.Text t))
-textAnswer (S.Refused r) = I.Refused r
-
--- The local name at a place: A0 80 and an integer, or A1 80 and a text.
-unfoldable pub localAt : List ℕ → ℕ → IdentifierAnswer
-localAt s p = cond (eqb (getD s p 0) 160) (numberAnswer (integerAt s (p + 2))) (textAnswer (textAt s (p + 2)))
-
--- The identifier at a place: AB 80 and a gi number, A0 80 and a local name, or another kind by its tag.
-unfoldable pub identifierAt : List ℕ → ℕ → IdentifierAnswer
-identifierAt s p =
-    cond (eqb (getD s p 0) 171) (giAnswer (integerAt s (p + 2)))
-    (cond (eqb (getD s p 0) 160) (localAt s (p + 2)) (I.Found (D.Other (getD s p 0))))
-
 -- 10 where there is no identifier of that number.
 abbrev pub identifierGiven : List ℕ → PlaceSearch → IdentifierAnswer
-identifierGiven s (P.Found p) = identifierAt s p
+identifierGiven s (P.Found p) = I.Found (identifierAt s p)
 identifierGiven s (P.Left k) = I.Refused NoSuchSequence
 
 abbrev pub identifierIn : List ℕ → ℕ → ℕ → Checked → IdentifierAnswer

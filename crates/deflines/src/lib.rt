@@ -1,16 +1,19 @@
 // The def-lines of a record that passes its check: titles and identifiers.
+mod values;
+
 use answers::Checked;
 use answers::Refusal;
 use elements::ElementAnswer;
 use elements::Form;
-use elements::IntegerAnswer;
 use elements::Span;
 use elements::SpanAnswer;
+use values::identifier_at;
 ghost use mathlib.Core.Path.{_≡_};
 ghost use Prim.Native.Nat.{_+_, _≤_};
 ghost use lib.ListN.{length};
 ghost use Rattle.deflines.specs.Fields.{nextAt, elementsIn, fieldAt, titlesIn, titlesOf, identifiersIn, identifiersOf, firstTitles};
-ghost use Rattle.deflines.specs.Calls.{titleFrom, titleOf, placeFrom, localAt, identifierAt, identifierOf, firstOf};
+ghost use Rattle.deflines.specs.Numbered.{titleFrom, placeFrom};
+ghost use Rattle.deflines.specs.Calls.{titleOf, identifierOf, firstOf};
 
 // The titles given before a title, and the numbers of identifiers, count through all def-lines of a record.
 
@@ -20,17 +23,106 @@ pub enum TitleAnswer {
     Refused(Refusal),
 }
 
-// A local name: a number, or text in the header file.
+// A text of a body that may be left out.
+pub enum OptionalText {
+    Absent,
+    Text(Span),
+}
+
+// An integer of a body that may be left out.
+pub enum OptionalInteger {
+    Absent,
+    Integer(i64),
+}
+
+// An object-id, which tags or names anything: a number, or text in the header file.
 pub enum ObjectId {
     Number(i64),
     Text(Span),
 }
 
-// An identifier: a gi number, a local name, or another kind by its tag.
+// What a text id gives of its sequence.
+pub struct TextId {
+    pub name: OptionalText,
+    pub accession: OptionalText,
+    pub release: OptionalText,
+    pub version: OptionalInteger,
+}
+
+// A sequence that was imported.
+pub struct Import {
+    pub id: i64,
+    pub db: OptionalText,
+    pub release: OptionalText,
+}
+
+// The number of a patent, or of its application.
+pub enum PatentNumber {
+    Number(Span),
+    Application(Span),
+}
+
+// A sequence of a patent, and the patent that is cited.
+pub struct Patent {
+    pub seqid: i64,
+    pub country: Span,
+    pub number: PatentNumber,
+    pub doc_type: OptionalText,
+}
+
+// A tag in another database.
+pub struct DatabaseTag {
+    pub db: Span,
+    pub tag: ObjectId,
+}
+
+// The fields of a date.
+pub struct DateFields {
+    pub year: i64,
+    pub month: OptionalInteger,
+    pub day: OptionalInteger,
+    pub season: OptionalText,
+    pub hour: OptionalInteger,
+    pub minute: OptionalInteger,
+    pub second: OptionalInteger,
+}
+
+// A date that may be left out: its text, or its fields.
+pub enum OptionalDate {
+    Absent,
+    Text(Span),
+    Fields(DateFields),
+}
+
+// A molecule of a structure, and its chain.
+pub struct Structure {
+    pub mol: Span,
+    pub chain: i64,
+    pub release: OptionalDate,
+}
+
+// An identifier, by its kind in source 001.
 pub enum Identifier {
-    Gi(i64),
     Local(ObjectId),
-    Other(u8),
+    Gibbsq(i64),
+    Gibbmt(i64),
+    Giim(Import),
+    Genbank(TextId),
+    Embl(TextId),
+    Pir(TextId),
+    Swissprot(TextId),
+    Patent(Patent),
+    Other(TextId),
+    General(DatabaseTag),
+    Gi(i64),
+    Ddbj(TextId),
+    Prf(TextId),
+    Pdb(Structure),
+    Tpg(TextId),
+    Tpe(TextId),
+    Tpd(TextId),
+    Gpipe(TextId),
+    NamedAnnotTrack(TextId),
 }
 
 // The answer of the identifier call.
@@ -72,7 +164,7 @@ pub enum Next {
 }
 
 // What comes next in a list, from a place on.
-fn next_element(s: &[u8], p: usize) -> Next
+pub(crate) fn next_element(s: &[u8], p: usize) -> Next
     ensures { λ r. ⌜ r ≡ nextAt (now (s .entry)) p ⌝ }
 {
     if elements::closes_at(s, p) {
@@ -224,44 +316,6 @@ pub fn title(header: &[u8], start: u64, end: u64, given: u64) -> TitleAnswer
     }
 }
 
-// The local name at a place.
-fn local_at(s: &[u8], p: usize) -> IdentifierAnswer
-    requires { ⌜ p ≤ length (now s) ⌝ }
-    ensures { λ r. ⌜ r ≡ localAt (now (s .entry)) p ⌝ }
-{
-    if fields::byte(s, p) == 160 {
-        match elements::integer(s, p + 2) {
-            IntegerAnswer::Integer(z) => IdentifierAnswer::Found(Identifier::Local(ObjectId::Number(
-                z,
-            ))),
-            IntegerAnswer::Refused(r) => IdentifierAnswer::Refused(r),
-        }
-    } else {
-        match elements::text(s, p + 2) {
-            SpanAnswer::Part(t) => IdentifierAnswer::Found(Identifier::Local(ObjectId::Text(t))),
-            SpanAnswer::Refused(r) => IdentifierAnswer::Refused(r),
-        }
-    }
-}
-
-// The identifier at a place.
-fn identifier_at(s: &[u8], p: usize) -> IdentifierAnswer
-    requires { ⌜ p + 2 ≤ length (now s) ⌝ }
-    ensures { λ r. ⌜ r ≡ identifierAt (now (s .entry)) p ⌝ }
-{
-    let b = fields::byte(s, p);
-    if b == 160 {
-        return local_at(s, p + 2);
-    }
-    if b != 171 {
-        return IdentifierAnswer::Found(Identifier::Other(b));
-    }
-    match elements::integer(s, p + 2) {
-        IntegerAnswer::Integer(z) => IdentifierAnswer::Found(Identifier::Gi(z)),
-        IntegerAnswer::Refused(r) => IdentifierAnswer::Refused(r),
-    }
-}
-
 // The identifier of a number, from 0 over all def-lines, of the record from start up to end of a header file.
 pub fn find_identifier(header: &[u8], start: u64, end: u64, number: u64) -> IdentifierAnswer
     ensures { λ r. ⌜ r ≡ identifierOf (now (header .entry)) start end number ⌝ }
@@ -272,7 +326,7 @@ pub fn find_identifier(header: &[u8], start: u64, end: u64, number: u64) -> Iden
             let stop = end as usize;
             let s = &header[..stop];
             match identifier_in_record(s, start as usize, number) {
-                PlaceSearch::Found(p) => identifier_at(s, p),
+                PlaceSearch::Found(p) => IdentifierAnswer::Found(identifier_at(s, p)),
                 PlaceSearch::Left(_) => IdentifierAnswer::Refused(Refusal::NoSuchSequence),
             }
         }

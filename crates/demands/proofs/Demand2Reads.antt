@@ -35,11 +35,12 @@ use Rattle.headers.specs.Record.{elementRules, recordRules, checkRecord}
 use Rattle.headers.specs.Statement.{GoodRecord}
 use Rattle.headers.proofs.Record.{record-element, passes-good}
 use Rattle.deflines.specs.Fields.{titlesOf, identifiersOf}
-use Rattle.deflines.specs.Calls.{numbered, titleOf, identifierOf}
+use Rattle.deflines.specs.Numbered.{numbered}
+use Rattle.deflines.specs.Calls.{titleOf, identifierOf}
 use Rattle.deflines.specs.Answers.{titleNumber, identifierNumber}
 use Rattle.deflines.specs.Written.{titlesWritten, identifiersWritten, firstTitle, firstLine, lineTitles, firstWritten}
 use Rattle.deflines.specs.declared.TitleAnswer.the-variants as Title
-use Rattle.deflines.specs.declared.Identifier.the-variants.{Other}
+use Rattle.deflines.specs.declared.Identifier.the-variants.{Gi}
 use Rattle.deflines.specs.declared.IdentifierAnswer.the-variants as Identifier
 use Rattle.deflines.proofs.Written.{titles-are, title-is, identifiers-count, identifier-is}
 use Rattle.labels.specs.Label.{recordLabel, ownRules, labelOf, labelNumber}
@@ -115,7 +116,7 @@ module _ (header : List ℕ) (start end : ℕ) where
   -- The identifier call answers 0 only where the record is good and has an identifier of that number, and gives it; and it answers 0 there.
   pub identifier-given-only : (number : ℕ) → identifierNumber (identifierOf header start end number) ≡ 0
       → (good : GoodRecord header start end) × (number < length (identifiersWritten good))
-      × (identifierOf header start end number ≡ Identifier.Found (getD (identifiersWritten good) number (Other 0)))
+      × (identifierOf header start end number ≡ Identifier.Found (getD (identifiersWritten good) number (Gi (pos 0))))
   identifier-given-only number z =
       let identifiers = identifiersOf (take end header) start in
       let more = ask (ltb number (length identifiers)) NoSuchSequence ∷ [] in
@@ -123,12 +124,12 @@ module _ (header : List ℕ) (start end : ℕ) where
       let good = good-of (hold-first (recordRules header start end) more h) in
       let k = ltb-true number (length identifiers) (hold-second (recordRules header start end) more h .0) in
       let below : number < length (identifiersWritten good) = rw (identifiers-count header start end good) at k in
-      (good, below, identifier-is header start end good number ∙ numbered-at Identifier.Found _ (identifiersWritten good) number (Other 0) below)
+      (good, below, identifier-is header start end good number ∙ numbered-at Identifier.Found _ (identifiersWritten good) number (Gi (pos 0)) below)
 
   pub identifier-given : (number : ℕ) (good : GoodRecord header start end) → number < length (identifiersWritten good)
       → identifierNumber (identifierOf header start end number) ≡ 0
   identifier-given number good below =
-      ap identifierNumber (identifier-is header start end good number ∙ numbered-at Identifier.Found _ (identifiersWritten good) number (Other 0) below)
+      ap identifierNumber (identifier-is header start end good number ∙ numbered-at Identifier.Found _ (identifiersWritten good) number (Gi (pos 0)) below)
 
 -- ---- labels
 
@@ -138,7 +139,7 @@ title-zero title (t ∷ ts) = refl
 
 written-zero : (title : ℕ) {s : List ℕ} {p n : ℕ} (lines : Items (DefLineElement s) s p n) → labelNumber (recordLabel title (firstLine lines)) ≡ 0
 written-zero title (E.close c e) = refl
-written-zero title (E.item line rest) = title-zero title (lineTitles (line .fields))
+written-zero title (E.item line rest) = title-zero title (lineTitles line)
 
 module _ (index header : List ℕ) (i : ℕ) where
   -- the rules before the record

@@ -12,3 +12,4 @@ pub mod Demand2Reads
 pub mod Refusals
 pub mod Pages
 pub mod Nucleotides
+pub mod Identifiers

@@ -58,7 +58,8 @@ use Rattle.headers.specs.Record.{isRead, endsAt, refusalIn, nestingAt, shapeAt,
 use Rattle.headers.specs.Statement.{GoodRecord}
 use Rattle.headers.proofs.Record.{nest-refused, record-element, passes-good}
 use Rattle.deflines.specs.Fields.{titlesOf, identifiersOf, firstTitles}
-use Rattle.deflines.specs.Calls.{numbered, titleFrom, titleOf, identifierOf, firstGiven, firstIn, firstOf}
+use Rattle.deflines.specs.Numbered.{numbered, titleFrom}
+use Rattle.deflines.specs.Calls.{titleOf, identifierOf, firstGiven, firstIn, firstOf}
 use Rattle.deflines.specs.Answers.{titleNumber, identifierNumber, firstNumber}
 use Rattle.deflines.specs.Written.{titlesWritten, identifiersWritten}
 use Rattle.deflines.proofs.Calls.{title-refused, identifier-refused}
@@ -315,7 +316,7 @@ module _ (header : List ℕ) (start end : ℕ) where
       (identifierOf header start end number)
   identifier-order number =
       let v =
-      record-then Identifier.Found Identifier.Refused (I.Other 0) number (length (identifiersOf (take end header) start))
+      record-then Identifier.Found Identifier.Refused (I.Gi (pos 0)) number (length (identifiersOf (take end header) start))
       (identifierOf header start end number) (checkRecord header start end) refl
       (identifier-refused header start end number)
       (λ good. (identifiersWritten good, identifier-is header start end good number, sym (identifiers-count header start end good))) in

@@ -19,6 +19,7 @@ use Rattle.volume.specs.Volume.{volumeRules}
 use Rattle.sequence.specs.Sequence.{decodeRules}
 use Rattle.pages.specs.Page.{pageRules}
 use Rattle.nucleotides.specs.Write.{writeRules, basesRules}
+use Rattle.kinds.specs.Names.{nameRules}
 use Rattle.listing.specs.Listing.{listingSizeRules}
 use Rattle.dsqdata.specs.Header.{countOf}
 use Rattle.dsqdata.specs.Check.{rulesTo, sizeRules, startRules, tagRules, fileRules, headerRules, countRules}
@@ -112,6 +113,10 @@ write-nucleotides-numbers codes room = refl
 
 pub bases-of-code-numbers : (code : ℕ) → numbersOf (basesRules code) ≡ 18 ∷ []
 bases-of-code-numbers code = refl
+
+-- the name of a kind
+pub kind-name-numbers : (kind : ℕ) (lent : List ℕ) → numbersOf (nameRules kind lent) ≡ 4 ∷ 13 ∷ []
+kind-name-numbers kind lent = refl
 
 -- a page: both files, then its list of ends; then the numbers of each item's own list
 pub fetch-page-numbers : (index sequence numbers ends : List ℕ) → numbersOf (pageRules index sequence numbers ends) ≡ 22 ∷ 22 ∷ 13 ∷ []

@@ -31,7 +31,8 @@ use Rattle.headers.specs.Record.{isRead, endsAt, refusalIn, nestingAt, shapeAt,
 use Rattle.headers.specs.Statement.{GoodRecord}
 use Rattle.headers.proofs.Record.{record-element, passes-good, good-passes}
 use Rattle.deflines.specs.Fields.{firstTitles}
-use Rattle.deflines.specs.Calls.{numbered, titleFrom, titleOf, identifierOf, firstGiven, firstIn, firstOf}
+use Rattle.deflines.specs.Numbered.{numbered, titleFrom}
+use Rattle.deflines.specs.Calls.{titleOf, identifierOf, firstGiven, firstIn, firstOf}
 use Rattle.deflines.specs.Answers.{titleNumber, identifierNumber}
 use Rattle.deflines.specs.Written.{titlesWritten, identifiersWritten}
 use Rattle.deflines.specs.declared.TitleAnswer.the-variants as Title

@@ -59,17 +59,17 @@ same-end m n e = cc
 pub data Began (inner : Form → ℕ → ElementAnswer) (form : Form) (s : List ℕ) (at n : ℕ) : Type 0 where
   integer : mayBegin form 2 ≡ true → Byte s at 2 → endOf (integerPart s (at + 1)) ≡ End n → Began inner form s at n
   text : mayBegin form 26 ≡ true → Byte s at 26 → endOf (textPart s (at + 1)) ≡ End n → Began inner form s at n
-  list : mayBegin form 48 ≡ true → Byte s at 48 → Byte s (at + 1) 128 → listEnd (inner (inside form 48)) form (length s) 0 s (at + 2) ≡ End n
+  list : mayBegin form 48 ≡ true → Byte s at 48 → Byte s (at + 1) 128 → listEnd (inner (inside form 48)) form (length s) 160 s (at + 2) ≡ End n
       → Began inner form s at n
   choice : (tag : ℕ) → 160 ≤ tag → tag ≤ 179 → mayBegin form tag ≡ true → Byte s at tag → Byte s (at + 1) 128
       → closedAt s (inner (inside form tag) (at + 2)) ≡ End n → Began inner form s at n
 
 module _ (inner : Form → ℕ → ElementAnswer) (form : Form) (s : List ℕ) (at n : ℕ) where
   began-list : (b : ℕ) → b ≡ 48 → mayBegin form b ≡ true → Byte s at b → Byte s (at + 1) 128
-      → listEnd (inner (inside form b)) form (length s) 0 s (at + 2) ≡ End n → Began inner form s at n
+      → listEnd (inner (inside form b)) form (length s) 160 s (at + 2) ≡ End n → Began inner form s at n
   began-list b q m y o e =
       list (subst (λ (x : ℕ). mayBegin form x ≡ true) q m) (subst (λ (x : ℕ). Byte s at x) q y) o
-      (subst (λ (x : ℕ). listEnd (inner (inside form x)) form (length s) 0 s (at + 2) ≡ End n) q e)
+      (subst (λ (x : ℕ). listEnd (inner (inside form x)) form (length s) 160 s (at + 2) ≡ End n) q e)
 
   pub began : restOf inner form s at (startOf form s at) ≡ End n → Began inner form s at n
   unfolding startOf

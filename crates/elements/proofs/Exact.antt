@@ -17,7 +17,7 @@ use Rattle.elements.specs.declared.SpanAnswer.{SpanAnswer}
 use Rattle.elements.specs.declared.SpanAnswer.the-variants as S
 use Rattle.elements.specs.declared.Form.{Form}
 use Rattle.elements.specs.declared.Form.the-variants as F
-use Rattle.elements.specs.Grammar.{inRange, mayFollow}
+use Rattle.elements.specs.Grammar.{inRange, mayFollow, mayClose}
 use Rattle.elements.specs.Parts.{bytesOf, partAt, integerPart, longPart, textPart}
 use Rattle.elements.specs.Reading.{closes, endOf, andThen, closedAt, listEnd, read}
 use Rattle.elements.specs.Statement.{Byte, IntegerElement, TextElement, Items, ListElement, ChoiceElement, AnyElement, Nested}
@@ -131,14 +131,14 @@ closed-end s (End m) n e =
 closed-end s (Refused r) n e = absurd (let z : _≡_ {A = ℕ} 0 1 = cc in omega arith)
 
 module _ (depth : ℕ) (i : Form) (s : List ℕ) (One : ℕ → ℕ → Type 0) (r : Reads (read depth i s) One) where
-  -- elements up to 00 00, where any may follow any
-  module _ (form : Form) (follow : (low b : ℕ) → mayFollow form low b ≡ true) where
+  -- elements up to 00 00, where any may follow any, and be the last
+  module _ (form : Form) (follow : (low b : ℕ) → mayFollow form low b ≡ true) (last : (low : ℕ) → mayClose form low ≡ true) where
     items-sound : (turns low p n : ℕ) → listEnd (read depth i s) form turns low s p ≡ End n → Items One s p n
     unfolding listEnd
     items-sound zero low p n e = bad-not-end n e
     items-sound (suc turns) low p n e =
         let P : ElementAnswer → Type 0 = λ x. x ≡ End n → Items One s p n in
-        cond-elim P (closes s p) (λ c e. Z.close (close-bytes s p c) (same-end _ n e))
+        cond-elim P (closes s p) (λ c e. Z.close (close-bytes s p c) (same-end _ n (rw (last low) at e)))
         (λ _. cond-elim P (mayFollow form low (getD s p 0))
         (λ _ e.
         let t = then-end (read depth i s p) (λ m. listEnd (read depth i s) form turns (getD s p 0 + 1) s m) n e in
@@ -149,18 +149,18 @@ module _ (depth : ℕ) (i : Form) (s : List ℕ) (One : ℕ → ℕ → Type 0) 
     items-full : (turns low p n : ℕ) → length s < turns + p → Items One s p n → listEnd (read depth i s) form turns low s p ≡ End n
     unfolding listEnd
     items-full zero low p n l (Z.close c q) = let w = c .first .there in absurd (omega arith)
-    items-full (suc turns) low p n l (Z.close c q) = rw (bytes-close s p c) (ap End q)
+    items-full (suc turns) low p n l (Z.close c q) = rw (bytes-close s p c, last low) (ap End q)
     items-full zero low p n l (Z.item {q} o t) = let w = ends-within depth i s p q (r .full p q o) in absurd (omega arith)
     items-full (suc turns) low p n l (Z.item {q} o t) =
         let e = r .full p q o in
         let w = ends-within depth i s p q e in
         rw (byte-not-close s p (read-byte depth i s p q e), follow low (getD s p 0), e) (items-full turns (getD s p 0 + 1) q n (omega (arith, w .0)) t)
 
-    pub list-sound : (at n : ℕ) → Byte s at 48 → Byte s (at + 1) 128 → listEnd (read depth i s) form (length s) 0 s (at + 2) ≡ End n → ListElement One s at n
-    list-sound at n y o e = record { tag = y; opened = o; items = items-sound (length s) 0 (at + 2) n e }
+    pub list-sound : (at n : ℕ) → Byte s at 48 → Byte s (at + 1) 128 → listEnd (read depth i s) form (length s) 160 s (at + 2) ≡ End n → ListElement One s at n
+    list-sound at n y o e = record { tag = y; opened = o; items = items-sound (length s) 160 (at + 2) n e }
 
-    pub list-full : (at n : ℕ) → ListElement One s at n → listEnd (read depth i s) form (length s) 0 s (at + 2) ≡ End n
-    list-full at n l = items-full (length s) 0 (at + 2) n (omega arith) (l .items)
+    pub list-full : (at n : ℕ) → ListElement One s at n → listEnd (read depth i s) form (length s) 160 s (at + 2) ≡ End n
+    list-full at n l = items-full (length s) 160 (at + 2) n (omega arith) (l .items)
 
   -- one element and 00 00
   pub choice-sound : (tag at n : ℕ) → Byte s at tag → Byte s (at + 1) 128 → closedAt s (read depth i s (at + 2)) ≡ End n → ChoiceElement One s tag at n
@@ -217,11 +217,11 @@ nested-reads (suc depth) s =
     go : Reads (read depth F.Any s) (Nested depth s) → (at n : ℕ) → Began (λ i p. read depth i s p) F.Any s at n → AnyElement (Nested depth s) s at n
     go r at n (B.integer m y e) = Z.integer (integer-sound s at n y e)
     go r at n (B.text m y e) = Z.text (text-sound s at n y e)
-    go r at n (B.list m y o e) = Z.list (list-sound depth F.Any s (Nested depth s) r F.Any (λ low b. refl) at n y o e)
+    go r at n (B.list m y o e) = Z.list (list-sound depth F.Any s (Nested depth s) r F.Any (λ low b. refl) (λ low. refl) at n y o e)
     go r at n (B.choice tag l h m y o e) = Z.choice tag l h (choice-sound depth F.Any s (Nested depth s) r tag at n y o e)
 
     back : Reads (read depth F.Any s) (Nested depth s) → (at n : ℕ) → AnyElement (Nested depth s) s at n → Began (λ i p. read depth i s p) F.Any s at n
     back r at n (Z.integer i) = B.integer refl (i .tag) (integer-full s at n i)
     back r at n (Z.text t) = B.text refl (text-tag depth s at n t) (text-full s at n t)
-    back r at n (Z.list l) = B.list refl (l .tag) (l .opened) (list-full depth F.Any s (Nested depth s) r F.Any (λ low b. refl) at n l)
+    back r at n (Z.list l) = B.list refl (l .tag) (l .opened) (list-full depth F.Any s (Nested depth s) r F.Any (λ low b. refl) (λ low. refl) at n l)
     back r at n (Z.choice tag l h c) = B.choice tag l h refl (c .tagged) (c .opened) (choice-full depth F.Any s (Nested depth s) r tag at n c)

@@ -1,8 +1,12 @@
 pub mod Parts
+pub mod Forms
 pub mod Reading
 pub mod Began
 pub mod Exact
+pub mod Tagged
+pub mod Records
 pub mod Shape
+pub mod Nesting
 pub mod Written
 pub mod Refusals
 pub mod Examples

@@ -18,7 +18,7 @@ use Rattle.elements.specs.declared.SpanAnswer.the-variants as S
 use Rattle.elements.specs.declared.Start.{Start}
 use Rattle.elements.specs.declared.Start.the-variants as B
 use Rattle.elements.specs.declared.Form.{Form}
-use Rattle.elements.specs.Grammar.{inRange, mayBegin, inside, mayFollow}
+use Rattle.elements.specs.Grammar.{inRange, mayBegin, inside, mayFollow, mayClose}
 use Rattle.elements.specs.Parts.{integerPart, textPart}
 use Rattle.elements.specs.Reading.{bad, opens, closes, begins, tooDeep, endOf, startOf, andThen, closedAt, listEnd, restOf, read}
 use Rattle.elements.proofs.Parts.{Past, integer-past, text-past}
@@ -164,7 +164,7 @@ list-good : (s : List ℕ) (inner : ℕ → ElementAnswer) (form : Form) → Rea
 unfolding listEnd
 list-good s inner form g zero low lo at h = tt
 list-good s inner form g (suc turns) low lo at h =
-    cond-elim (Good s lo) (closes s at) (λ c. close-good s lo at h c)
+    cond-elim (Good s lo) (closes s at) (λ c. cond-elim (Good s lo) (mayClose form low) (λ _. close-good s lo at h c) (λ _. tt))
     (λ _. cond-elim (Good s lo) (mayFollow form low (getD s at 0))
     (λ _. then-good s lo (at + 1) (inner at) (λ n. listEnd inner form turns (getD s at 0 + 1) s n) (omega arith) (g at)
     (λ n p q. list-good s inner form g turns (getD s at 0 + 1) lo n p))
@@ -177,7 +177,7 @@ closed-good s lo at (Refused r) h g = tt
 rest-good : (s : List ℕ) (inner : Form → ℕ → ElementAnswer) (form : Form) (at : ℕ) → ((i : Form) → Reader s (inner i)) → (x : Start)
     → StartGood s at x → Good s (at + 1) (restOf inner form s at x)
 rest-good s inner form at g (B.Ended x) p = p
-rest-good s inner form at g (B.List i) p = list-good s (inner i) form (g i) (length s) 0 (at + 1) (at + 2) (omega arith)
+rest-good s inner form at g (B.List i) p = list-good s (inner i) form (g i) (length s) 160 (at + 1) (at + 2) (omega arith)
 rest-good s inner form at g (B.Choice i) p = closed-good s (at + 1) (at + 2 + 1) (inner i (at + 2)) (omega arith) (g i (at + 2))
 
 read-good : (depth : ℕ) (form : Form) (s : List ℕ) (at : ℕ) → Good s (at + 1) (read depth form s at)
@@ -225,18 +225,22 @@ pub record Rest (inner : ℕ → ElementAnswer) (form : Form) (low : ℕ) (s : L
   pub is : listEnd inner form turns low s p ≡ x
 
 pub rest-begins : (depth : ℕ) (form : Form) (s : List ℕ) (at : ℕ) {x : Start} {i : Form} → x ≡ startOf form s at → (depth ≡ 0 → ⊥) → x ≡ B.List i
-    → Rest (Inner depth i s) form 0 s (at + 2) (read depth form s at)
+    → Rest (Inner depth i s) form 160 s (at + 2) (read depth form s at)
 rest-begins depth form s at e deep q =
     record { turns = length s; room = list-room form s at e q; many = omega arith; is = read-started form s at e depth deep q }
 
--- its turns: the list ends, an element may not follow, is refused, is passed
+-- its turns: the list ends, or may not end there; an element may not follow, is refused, is passed
 module _ {inner : ℕ → ElementAnswer} {form : Form} {low : ℕ} {s : List ℕ} {p : ℕ} {x : ElementAnswer} (r : Rest inner form low s p x) where
   turned : listEnd inner form (suc (r .turns - 1)) low s p ≡ x
   turned = let f : r .turns ≡ suc (r .turns - 1) = omega arith in ap (λ (k : ℕ). listEnd inner form k low s p) (sym f) ∙ r .is
 
-  pub rest-ends : closes s p ≡ true → End (p + 2) ≡ x
+  pub rest-ends : closes s p ≡ true → mayClose form low ≡ true → End (p + 2) ≡ x
   unfolding listEnd
-  rest-ends c = rw c at turned
+  rest-ends c m = rw (c, m) at turned
+
+  pub rest-short : closes s p ≡ true → mayClose form low ≡ false → bad ≡ x
+  unfolding listEnd
+  rest-short c m = rw (c, m) at turned
 
   module _ (c : closes s p ≡ false) {b : ℕ} (e : b ≡ getD s p 0) where
     pub rest-stray : mayFollow form low b ≡ false → bad ≡ x

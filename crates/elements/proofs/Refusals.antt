@@ -23,7 +23,7 @@ use Rattle.elements.specs.declared.IntegerAnswer.the-variants as I
 use Rattle.elements.specs.declared.Start.{Start}
 use Rattle.elements.specs.declared.Form.{Form}
 use Rattle.elements.specs.declared.Form.the-variants as F
-use Rattle.elements.specs.Grammar.{inRange, mayBegin, mayFollow}
+use Rattle.elements.specs.Grammar.{inRange, mayBegin, mayFollow, mayClose}
 use Rattle.elements.specs.Parts.{bytesOf, partAt, integerAllowed, integerPart, longPart, textPart, integerIn, integerAt, textAt}
 use Rattle.elements.specs.Reading.{bad, opens, closes, begins, tooDeep, endOf, startOf, andThen, closedAt, listEnd, restOf, read}
 use Rattle.elements.specs.Statement.{Byte, IntegerElement, TextElement, Nested}
@@ -88,7 +88,7 @@ list-gives : (inner : ℕ → ElementAnswer) (form : Form) → ((n : ℕ) → Gi
 unfolding listEnd
 list-gives inner form h zero low s at = inl refl
 list-gives inner form h (suc turns) low s at =
-    cond-elim (Gives MalformedOrDeep) (closes s at) (λ _. tt)
+    cond-elim (Gives MalformedOrDeep) (closes s at) (λ _. cond-elim (Gives MalformedOrDeep) (mayClose form low) (λ _. tt) (λ _. inl refl))
     (λ _. cond-elim (Gives MalformedOrDeep) (mayFollow form low (getD s at 0))
     (λ _. then-gives (inner at) (λ n. listEnd inner form turns (getD s at 0 + 1) s n) (h at) (λ n. list-gives inner form h turns (getD s at 0 + 1) s n))
     (λ _. inl refl))
@@ -103,7 +103,7 @@ rest-gives inner form s at h =
     (λ _. cond-elim P (eqb b 2) (λ _. either (endOf (integerPart s (at + 1))) (integer-bad s (at + 1)))
     (λ _. cond-elim P (eqb b 26) (λ _. either (endOf (textPart s (at + 1))) (text-bad s (at + 1)))
     (λ _. cond-elim P (opens s (at + 1))
-    (λ _. cond-elim P (eqb b 48) (λ _. list-gives (inner _) form (h _) (length s) 0 s (at + 2))
+    (λ _. cond-elim P (eqb b 48) (λ _. list-gives (inner _) form (h _) (length s) 160 s (at + 2))
     (λ _. cond-elim P (inRange 160 179 b) (λ _. closed-gives s (inner _ (at + 2)) (h _ (at + 2))) (λ _. inl refl)))
     (λ _. inl refl))))
     (λ _. inl refl)
@@ -210,7 +210,7 @@ module _ (depth : ℕ) (s : List ℕ) where
         (λ _. cond-elim P (eqb b 26) (λ _ e. not-deep (endOf (textPart s (at + 1))) (text-bad s (at + 1)) e)
         (λ _. cond-elim P (opens s (at + 1))
         (λ o. cond-elim P (eqb b 48)
-        (λ q e. let w = list-down (length s) 0 (at + 2) e in (w .0, D.list (record { there = there; is = eqb-true b 48 q }) (open-byte s (at + 1) o) (w .1)))
+        (λ q e. let w = list-down (length s) 160 (at + 2) e in (w .0, D.list (record { there = there; is = eqb-true b 48 q }) (open-byte s (at + 1) o) (w .1)))
         (λ _. cond-elim P (inRange 160 179 b)
         (λ r e.
         let w = sound (at + 2) (closed-deep s (read depth F.Any s (at + 2)) e) in
@@ -233,7 +233,7 @@ module _ (depth : ℕ) (s : List ℕ) where
 
     down-goes : (at : ℕ) → GoesDown (Nested depth s) (Deep depth s p) s at → restOf (λ i n. read depth i s n) F.Any s at (startOf F.Any s at) ≡ Refused TooDeep
     unfolding startOf
-    down-goes at (D.list y o t) = rw (lt-ltb _ _ (y .there), y .is, byte-open s (at + 1) o) (down-list (length s) 0 (at + 2) (omega arith) t)
+    down-goes at (D.list y o t) = rw (lt-ltb _ _ (y .there), y .is, byte-open s (at + 1) o) (down-list (length s) 160 (at + 2) (omega arith) t)
     down-goes at (D.choice tag l h y o d) =
         let n2 : tag ≡ 2 → ⊥ = λ z. omega arith in
         let n26 : tag ≡ 26 → ⊥ = λ z. omega arith in

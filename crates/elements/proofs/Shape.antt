@@ -1,282 +1,212 @@
--- The forms of a header record are read exactly where source 001 has them; and what a form reads, the nesting reads too. Assumes nothing.
-use mathlib.Core.Path.{_≡_, refl, sym, subst, ap, _∙_}
+-- The forms of a header record are read exactly where source 001 has them. Assumes nothing.
+use mathlib.Core.Path.{_≡_, refl, sym, _∙_}
 use mathlib.Core.List.{List}
-use mathlib.Core.Bool.{true, cond}
-use Prim.Native.Nat.{ℕ, zero, suc, _+_, _≤_, _<_}
+use mathlib.Core.Bool.{true}
+use Prim.Native.Nat.{ℕ, suc, _≤_}
 use native.Mathlib.Omega.{arith}
-use borrow.Author.Tests.{le-leb, ne-eqb, leb-true, eqb-true, eqb-false}
-use lib.ListN.{length, getD}
-use lib.Dec.{leb, eqb}
-use Rattle.laws.proofs.Tests.{never, bool-cases}
-use Rattle.laws.proofs.Choices.{cond-elim}
-use Rattle.elements.specs.declared.ElementAnswer.{ElementAnswer}
-use Rattle.elements.specs.declared.ElementAnswer.the-variants.{End, Refused}
+use lib.Dec.{eqb}
+use Rattle.laws.proofs.Tests.{never}
+use Rattle.elements.specs.declared.ElementAnswer.the-variants.{End}
+use Rattle.elements.specs.declared.RecordKind.the-variants as R
 use Rattle.elements.specs.declared.Form.{Form}
 use Rattle.elements.specs.declared.Form.the-variants as F
-use Rattle.elements.specs.Grammar.{inRange, mayBegin, identifierBody, inside, mayFollow}
-use Rattle.elements.specs.Reading.{closes, andThen, closedAt, listEnd, read}
-use Rattle.elements.specs.Statement.{Byte, IntegerElement, TextElement, ListElement, ChoiceElement, Nested}
-use Rattle.elements.specs.DefLines.{ObjectIdElement, IdentifierElement, FieldElement, RisingFields, DefLineElement, DefLinesElement}
+use Rattle.elements.specs.Grammar.{mayBegin, inside, mayFollow, mayClose}
+use Rattle.elements.specs.Reading.{read}
+use Rattle.elements.specs.Statement.{IntegerElement, ListElement, ChoiceElement}
+use Rattle.elements.specs.DefLines.{DateStdElement, DateElement, PatentNumberElement, IdPatElement, PdbSeqIdElement, GiimportIdElement}
+use Rattle.elements.specs.DefLines.{TextseqIdElement, PatentSeqIdElement, ObjectIdElement, DbtagElement, IdentifierElement}
+use Rattle.elements.specs.DefLines.{DefLineElement, DefLinesElement}
 use Rattle.elements.specs.DefLines as Z
-use Rattle.elements.proofs.Parts.{range-parts}
-use Rattle.elements.proofs.Reading.{ends-within}
-use Rattle.elements.proofs.Began.{close-bytes, bytes-close, byte-not-close, bad-not-end, same-end, Began, read-began, began-read, read-none, read-byte}
+use Rattle.elements.proofs.Began.{Began, read-began, began-read}
 use Rattle.elements.proofs.Began as B
-use Rattle.elements.proofs.Exact.{Reads, then-end, list-sound, list-full, choice-sound, choice-full, no-choice, integer-reads, text-reads, nested-reads}
+use Rattle.elements.proofs.Exact.{Reads, list-sound, list-full, no-choice, integer-reads, text-reads}
+use Rattle.elements.proofs.Tagged.{read-tagged, tagged-read, tag-choice, tag-cases, either-reads}
+use Rattle.elements.proofs.Records.{required, optional, ended, record-reads}
 
 -- ---- lists of one form
 
--- a form that begins with 30 and lets any element follow any
+-- a form that begins with 30, lets any element follow any, and any be the last
 module _ (depth : ℕ) (s : List ℕ) (form : Form) (One : ℕ → ℕ → Type 0) (begin : (b : ℕ) → mayBegin form b ≡ eqb b 48)
-    (follow : (low b : ℕ) → mayFollow form low b ≡ true) (r : Reads (read depth (inside form 48) s) One) where
+    (follow : (low b : ℕ) → mayFollow form low b ≡ true) (last : (low : ℕ) → mayClose form low ≡ true) (r : Reads (read depth (inside form 48) s) One) where
   pub list-reads : Reads (read (suc depth) form s) (ListElement One s)
   list-reads =
       record {
         sound = λ at n e. go at n (read-began depth form s at n e);
         full = λ at n l. began-read depth form s at n
-            (B.list (begin 48) (l .tag) (l .opened) (list-full depth (inside form 48) s One r form follow at n l));
+            (B.list (begin 48) (l .tag) (l .opened) (list-full depth (inside form 48) s One r form follow last at n l));
       }
     where
       go : (at n : ℕ) → Began (λ i p. read depth i s p) form s at n → ListElement One s at n
       go at n (B.integer m y e) = never (sym (begin 2) ∙ m)
       go at n (B.text m y e) = never (sym (begin 26) ∙ m)
-      go at n (B.list m y o e) = list-sound depth (inside form 48) s One r form follow at n y o e
+      go at n (B.list m y o e) = list-sound depth (inside form 48) s One r form follow last at n y o e
       go at n (B.choice tag l h m y o e) = no-choice 48 tag (omega arith) l (sym (begin tag) ∙ m)
 
 pub integers-reads : (depth : ℕ) (s : List ℕ) → Reads (read (suc (suc depth)) F.Integers s) (ListElement (IntegerElement s) s)
-integers-reads depth s = list-reads (suc depth) s F.Integers (IntegerElement s) (λ b. refl) (λ low b. refl) (integer-reads depth s)
+integers-reads depth s = list-reads (suc depth) s F.Integers (IntegerElement s) (λ b. refl) (λ low b. refl) (λ low. refl) (integer-reads depth s)
 
--- ---- choices by their tag
+-- ---- source 001's definitions, with depths left for what is inside
 
--- a form that begins with A0 to a last tag only
-module _ (depth : ℕ) (s : List ℕ) (form : Form) (last : ℕ) (below : last ≤ 179) (begin : (b : ℕ) → mayBegin form b ≡ inRange 160 last b) where
-  -- it begins with a tag that is one of them
-  pub tagged : (at n : ℕ) → Began (λ i p. read depth i s p) form s at n
-      → (tag : ℕ) × (160 ≤ tag) × (tag ≤ last) × Byte s at tag × Byte s (at + 1) 128 × (closedAt s (read depth (inside form tag) s (at + 2)) ≡ End n)
-  tagged at n (B.integer m y e) = never (sym (begin 2) ∙ m)
-  tagged at n (B.text m y e) = never (sym (begin 26) ∙ m)
-  tagged at n (B.list m y o e) = never (sym (begin 48) ∙ m)
-  tagged at n (B.choice tag l h m y o e) = (tag, l, range-parts 160 last tag (sym (begin tag) ∙ m) .1, y, o, e)
+module _ (depth : ℕ) (s : List ℕ) where
+  pub date-std-reads : Reads (read (suc (suc (suc depth))) (F.Record R.DateStd) s) (DateStdElement s)
+  date-std-reads =
+      let d = suc depth in
+      let number = integer-reads depth s in
+      let k = R.DateStd in
+      record-reads d s k
+      (required d s k 160 number
+      (optional d s k 161 number
+      (optional d s k 162 number
+      (optional d s k 163 (text-reads depth s)
+      (optional d s k 164 number
+      (optional d s k 165 number
+      (optional d s k 166 number
+      (ended d s k 167 refl) refl) refl) refl) refl) refl) refl) refl)
 
-  -- and is read where its tag is one of them
-  pub tag-read : (One : ℕ → ℕ → Type 0) (tag at n : ℕ) → 160 ≤ tag → tag ≤ last → Reads (read depth (inside form tag) s) One → ChoiceElement One s tag at n
-      → read (suc depth) form s at ≡ End n
-  tag-read One tag at n l h r c =
-      began-read depth form s at n
-      (B.choice tag l (omega arith) (begin tag ∙ rw (le-leb _ _ l, le-leb _ _ h)) (c .tagged) (c .opened)
-      (choice-full depth (inside form tag) s One r tag at n c))
+  pub giimport-id-reads : Reads (read (suc (suc (suc depth))) (F.Record R.GiimportId) s) (GiimportIdElement s)
+  giimport-id-reads =
+      let d = suc depth in
+      let k = R.GiimportId in
+      record-reads d s k
+      (required d s k 160 (integer-reads depth s)
+      (optional d s k 161 (text-reads depth s)
+      (optional d s k 162 (text-reads depth s)
+      (ended d s k 163 refl) refl) refl) refl)
 
-  -- the choice of a tag that is known
-  pub tag-choice : (One : ℕ → ℕ → Type 0) (tag k at n : ℕ) → tag ≡ k → Reads (read depth (inside form k) s) One → Byte s at tag → Byte s (at + 1) 128
-      → closedAt s (read depth (inside form tag) s (at + 2)) ≡ End n → ChoiceElement One s k at n
-  tag-choice One tag k at n q r y o e =
-      choice-sound depth (inside form k) s One r k at n (subst (λ (x : ℕ). Byte s at x) q y) o
-      (subst (λ (x : ℕ). closedAt s (read depth (inside form x) s (at + 2)) ≡ End n) q e)
+  pub textseq-id-reads : Reads (read (suc (suc (suc depth))) (F.Record R.TextseqId) s) (TextseqIdElement s)
+  textseq-id-reads =
+      let d = suc depth in
+      let k = R.TextseqId in
+      record-reads d s k
+      (optional d s k 160 (text-reads depth s)
+      (optional d s k 161 (text-reads depth s)
+      (optional d s k 162 (text-reads depth s)
+      (optional d s k 163 (integer-reads depth s)
+      (ended d s k 164 refl) refl) refl) refl) refl)
 
-pub object-reads : (depth : ℕ) (s : List ℕ) → Reads (read (suc (suc depth)) F.ObjectId s) (ObjectIdElement s)
-object-reads depth s =
-    record {
-      sound = λ at n e. go at n (tagged (suc depth) s F.ObjectId 161 (omega arith) (λ b. refl) at n (read-began (suc depth) F.ObjectId s at n e));
-      full = back;
-    }
-  where
-    go : (at n : ℕ) → (tag : ℕ) × (160 ≤ tag) × (tag ≤ 161) × Byte s at tag × Byte s (at + 1) 128
-        × (closedAt s (read (suc depth) (inside F.ObjectId tag) s (at + 2)) ≡ End n)
-        → ObjectIdElement s at n
-    go at n (tag, l, h, y, o, e) =
-        bool-cases (eqb tag 160)
-        (λ q. Z.number (tag-choice (suc depth) s F.ObjectId 161 (omega arith) (λ b. refl) (IntegerElement s) tag 160 at n (eqb-true tag 160 q)
-        (integer-reads depth s) y o e))
-        (λ q. let u = eqb-false tag 160 q in let w : tag ≡ 161 = omega arith in
-        Z.text (tag-choice (suc depth) s F.ObjectId 161 (omega arith) (λ b. refl) (TextElement s) tag 161 at n w (text-reads depth s) y o e))
+  pub object-id-reads : Reads (read (suc (suc depth)) F.ObjectId s) (ObjectIdElement s)
+  object-id-reads = either-reads (suc depth) s F.ObjectId (λ b. refl) (integer-reads depth s) (text-reads depth s)
 
-    back : (at n : ℕ) → ObjectIdElement s at n → read (suc (suc depth)) F.ObjectId s at ≡ End n
-    back at n (Z.number c) =
-        tag-read (suc depth) s F.ObjectId 161 (omega arith) (λ b. refl) (IntegerElement s) 160 at n (omega arith) (omega arith) (integer-reads depth s) c
-    back at n (Z.text c) =
-        tag-read (suc depth) s F.ObjectId 161 (omega arith) (λ b. refl) (TextElement s) 161 at n (omega arith) (omega arith) (text-reads depth s) c
+  pub patent-number-reads : Reads (read (suc (suc depth)) F.PatentNumber s) (PatentNumberElement s)
+  patent-number-reads = either-reads (suc depth) s F.PatentNumber (λ b. refl) (text-reads depth s) (text-reads depth s)
 
-other-body : (tag : ℕ) → 161 ≤ tag → (tag ≡ 171 → ⊥) → identifierBody tag ≡ F.Any
-other-body tag l n = let m : tag ≡ 160 → ⊥ = λ z. omega arith in rw (ne-eqb _ _ m, ne-eqb _ _ n)
+  pub date-reads : Reads (read (suc (suc (suc (suc depth)))) F.Date s) (DateElement s)
+  date-reads = either-reads (suc (suc (suc depth))) s F.Date (λ b. refl) (text-reads (suc (suc depth)) s) date-std-reads
+
+pub id-pat-reads : (depth : ℕ) (s : List ℕ) → Reads (read (suc (suc (suc (suc depth)))) (F.Record R.IdPat) s) (IdPatElement s)
+id-pat-reads depth s =
+    let d = suc (suc depth) in
+    let k = R.IdPat in
+    let text = text-reads (suc depth) s in
+    record-reads d s k
+    (required d s k 160 text
+    (required d s k 161 (patent-number-reads depth s)
+    (optional d s k 162 text
+    (ended d s k 163 refl) refl) refl) refl)
+
+pub dbtag-reads : (depth : ℕ) (s : List ℕ) → Reads (read (suc (suc (suc (suc depth)))) (F.Record R.Dbtag) s) (DbtagElement s)
+dbtag-reads depth s =
+    let d = suc (suc depth) in
+    let k = R.Dbtag in
+    record-reads d s k
+    (required d s k 160 (text-reads (suc depth) s)
+    (required d s k 161 (object-id-reads depth s)
+    (ended d s k 162 refl) refl) refl)
+
+-- the citation is a record inside a record
+pub patent-seq-id-reads : (depth : ℕ) (s : List ℕ)
+    → Reads (read (suc (suc (suc (suc (suc (suc depth)))))) (F.Record R.PatentSeqId) s) (PatentSeqIdElement s)
+patent-seq-id-reads depth s =
+    let d = suc (suc (suc (suc depth))) in
+    let k = R.PatentSeqId in
+    record-reads d s k
+    (required d s k 160 (integer-reads (suc (suc (suc depth))) s)
+    (required d s k 161 (id-pat-reads depth s)
+    (ended d s k 162 refl) refl) refl)
+
+-- and so is the date
+pub pdb-seq-id-reads : (depth : ℕ) (s : List ℕ)
+    → Reads (read (suc (suc (suc (suc (suc (suc depth)))))) (F.Record R.PdbSeqId) s) (PdbSeqIdElement s)
+pdb-seq-id-reads depth s =
+    let d = suc (suc (suc (suc depth))) in
+    let k = R.PdbSeqId in
+    record-reads d s k
+    (required d s k 160 (text-reads (suc (suc (suc depth))) s)
+    (optional d s k 161 (integer-reads (suc (suc (suc depth))) s)
+    (optional d s k 162 (date-reads depth s)
+    (ended d s k 163 refl) refl) refl) refl)
+
+-- ---- def-lines and their identifiers, which stand at depth 5
 
 module _ (s : List ℕ) where
-  -- an identifier stands at depth 5
   pub identifier-reads : Reads (read 12 F.Identifier s) (IdentifierElement s)
-  identifier-reads =
-      record {
-        sound = λ at n e. go at n (tagged 11 s F.Identifier 179 (omega arith) (λ b. refl) at n (read-began 11 F.Identifier s at n e));
-        full = back;
-      }
+  identifier-reads = record { sound = go; full = back }
     where
-      others : (tag : ℕ) → 161 ≤ tag → (tag ≡ 171 → ⊥) → Reads (read 11 (inside F.Identifier tag) s) (Nested 11 s)
-      others tag l n = subst (λ (f : Form). Reads (read 11 f s) (Nested 11 s)) (sym (other-body tag l n)) (nested-reads 11 s)
+      go : (at n : ℕ) → read 12 F.Identifier s at ≡ End n → IdentifierElement s at n
+      go at n e =
+          let x = read-tagged 11 s F.Identifier 179 (λ b. refl) at n e in
+          tag-cases 160 (x .tag) (x .first) (λ q. Z.local (tag-choice x 160 q (object-id-reads 9 s)))
+          (λ l. tag-cases 161 (x .tag) l (λ q. Z.gibbsq (tag-choice x 161 q (integer-reads 10 s)))
+          (λ l. tag-cases 162 (x .tag) l (λ q. Z.gibbmt (tag-choice x 162 q (integer-reads 10 s)))
+          (λ l. tag-cases 163 (x .tag) l (λ q. Z.giim (tag-choice x 163 q (giimport-id-reads 8 s)))
+          (λ l. tag-cases 164 (x .tag) l (λ q. Z.genbank (tag-choice x 164 q (textseq-id-reads 8 s)))
+          (λ l. tag-cases 165 (x .tag) l (λ q. Z.embl (tag-choice x 165 q (textseq-id-reads 8 s)))
+          (λ l. tag-cases 166 (x .tag) l (λ q. Z.pir (tag-choice x 166 q (textseq-id-reads 8 s)))
+          (λ l. tag-cases 167 (x .tag) l (λ q. Z.swissprot (tag-choice x 167 q (textseq-id-reads 8 s)))
+          (λ l. tag-cases 168 (x .tag) l (λ q. Z.patent (tag-choice x 168 q (patent-seq-id-reads 5 s)))
+          (λ l. tag-cases 169 (x .tag) l (λ q. Z.other (tag-choice x 169 q (textseq-id-reads 8 s)))
+          (λ l. tag-cases 170 (x .tag) l (λ q. Z.general (tag-choice x 170 q (dbtag-reads 7 s)))
+          (λ l. tag-cases 171 (x .tag) l (λ q. Z.gi (tag-choice x 171 q (integer-reads 10 s)))
+          (λ l. tag-cases 172 (x .tag) l (λ q. Z.ddbj (tag-choice x 172 q (textseq-id-reads 8 s)))
+          (λ l. tag-cases 173 (x .tag) l (λ q. Z.prf (tag-choice x 173 q (textseq-id-reads 8 s)))
+          (λ l. tag-cases 174 (x .tag) l (λ q. Z.pdb (tag-choice x 174 q (pdb-seq-id-reads 5 s)))
+          (λ l. tag-cases 175 (x .tag) l (λ q. Z.tpg (tag-choice x 175 q (textseq-id-reads 8 s)))
+          (λ l. tag-cases 176 (x .tag) l (λ q. Z.tpe (tag-choice x 176 q (textseq-id-reads 8 s)))
+          (λ l. tag-cases 177 (x .tag) l (λ q. Z.tpd (tag-choice x 177 q (textseq-id-reads 8 s)))
+          (λ l. tag-cases 178 (x .tag) l (λ q. Z.gpipe (tag-choice x 178 q (textseq-id-reads 8 s)))
+          (λ l. let m = x .most in let q : x .tag ≡ 179 = omega arith in Z.named-annot-track (tag-choice x 179 q (textseq-id-reads 8 s)))))))))))))))))))))
 
-      go : (at n : ℕ) → (tag : ℕ) × (160 ≤ tag) × (tag ≤ 179) × Byte s at tag × Byte s (at + 1) 128
-          × (closedAt s (read 11 (inside F.Identifier tag) s (at + 2)) ≡ End n)
-          → IdentifierElement s at n
-      go at n (tag, l, h, y, o, e) =
-          bool-cases (eqb tag 160)
-          (λ q. Z.local (tag-choice 11 s F.Identifier 179 (omega arith) (λ b. refl) (ObjectIdElement s) tag 160 at n (eqb-true tag 160 q)
-          (object-reads 9 s) y o e))
-          (λ q. bool-cases (eqb tag 171)
-          (λ p. Z.gi (tag-choice 11 s F.Identifier 179 (omega arith) (λ b. refl) (IntegerElement s) tag 171 at n (eqb-true tag 171 p)
-          (integer-reads 10 s) y o e))
-          (λ p.
-          let u = eqb-false tag 160 q in
-          let v = eqb-false tag 171 p in
-          let w : 161 ≤ tag = omega arith in
-          Z.other tag w h v (choice-sound 11 (inside F.Identifier tag) s (Nested 11 s) (others tag w v) tag at n y o e)))
+      choose : {One : ℕ → ℕ → Type 0} (tag at n : ℕ) → 160 ≤ tag → tag ≤ 179 → Reads (read 11 (inside F.Identifier tag) s) One → ChoiceElement One s tag at n
+          → read 12 F.Identifier s at ≡ End n
+      choose tag at n l h r c = tagged-read 11 s F.Identifier 179 (λ b. refl) tag at n (omega arith) l h r c
 
       back : (at n : ℕ) → IdentifierElement s at n → read 12 F.Identifier s at ≡ End n
-      back at n (Z.local c) =
-          tag-read 11 s F.Identifier 179 (omega arith) (λ b. refl) (ObjectIdElement s) 160 at n (omega arith) (omega arith) (object-reads 9 s) c
-      back at n (Z.gi c) =
-          tag-read 11 s F.Identifier 179 (omega arith) (λ b. refl) (IntegerElement s) 171 at n (omega arith) (omega arith) (integer-reads 10 s) c
-      back at n (Z.other tag l h v c) = tag-read 11 s F.Identifier 179 (omega arith) (λ b. refl) (Nested 11 s) tag at n (omega arith) h (others tag l v) c
+      back at n (Z.local c) = choose 160 at n (omega arith) (omega arith) (object-id-reads 9 s) c
+      back at n (Z.gibbsq c) = choose 161 at n (omega arith) (omega arith) (integer-reads 10 s) c
+      back at n (Z.gibbmt c) = choose 162 at n (omega arith) (omega arith) (integer-reads 10 s) c
+      back at n (Z.giim c) = choose 163 at n (omega arith) (omega arith) (giimport-id-reads 8 s) c
+      back at n (Z.genbank c) = choose 164 at n (omega arith) (omega arith) (textseq-id-reads 8 s) c
+      back at n (Z.embl c) = choose 165 at n (omega arith) (omega arith) (textseq-id-reads 8 s) c
+      back at n (Z.pir c) = choose 166 at n (omega arith) (omega arith) (textseq-id-reads 8 s) c
+      back at n (Z.swissprot c) = choose 167 at n (omega arith) (omega arith) (textseq-id-reads 8 s) c
+      back at n (Z.patent c) = choose 168 at n (omega arith) (omega arith) (patent-seq-id-reads 5 s) c
+      back at n (Z.other c) = choose 169 at n (omega arith) (omega arith) (textseq-id-reads 8 s) c
+      back at n (Z.general c) = choose 170 at n (omega arith) (omega arith) (dbtag-reads 7 s) c
+      back at n (Z.gi c) = choose 171 at n (omega arith) (omega arith) (integer-reads 10 s) c
+      back at n (Z.ddbj c) = choose 172 at n (omega arith) (omega arith) (textseq-id-reads 8 s) c
+      back at n (Z.prf c) = choose 173 at n (omega arith) (omega arith) (textseq-id-reads 8 s) c
+      back at n (Z.pdb c) = choose 174 at n (omega arith) (omega arith) (pdb-seq-id-reads 5 s) c
+      back at n (Z.tpg c) = choose 175 at n (omega arith) (omega arith) (textseq-id-reads 8 s) c
+      back at n (Z.tpe c) = choose 176 at n (omega arith) (omega arith) (textseq-id-reads 8 s) c
+      back at n (Z.tpd c) = choose 177 at n (omega arith) (omega arith) (textseq-id-reads 8 s) c
+      back at n (Z.gpipe c) = choose 178 at n (omega arith) (omega arith) (textseq-id-reads 8 s) c
+      back at n (Z.named-annot-track c) = choose 179 at n (omega arith) (omega arith) (textseq-id-reads 8 s) c
 
   pub identifiers-reads : Reads (read 13 F.Identifiers s) (ListElement (IdentifierElement s) s)
-  identifiers-reads = list-reads 12 s F.Identifiers (IdentifierElement s) (λ b. refl) (λ low b. refl) identifier-reads
+  identifiers-reads = list-reads 12 s F.Identifiers (IdentifierElement s) (λ b. refl) (λ low b. refl) (λ low. refl) identifier-reads
 
-  -- a field by its tag
-  field-tag : (at n tag : ℕ) → FieldElement s at n tag → getD s at 0 ≡ tag
-  field-tag at n tag (Z.title c) = c .tagged .is
-  field-tag at n tag (Z.seqid c) = c .tagged .is
-  field-tag at n tag (Z.taxid c) = c .tagged .is
-  field-tag at n tag (Z.memberships c) = c .tagged .is
-  field-tag at n tag (Z.links c) = c .tagged .is
-  field-tag at n tag (Z.info c) = c .tagged .is
-
-  abbrev pub FieldAt : ℕ → ℕ → Type 0
-  FieldAt at n = (tag : ℕ) × FieldElement s at n tag
-
-  module _ (One : ℕ → ℕ → Type 0) (tag k at n : ℕ) where
-    as-field : tag ≡ k → Reads (read 13 (inside F.Field k) s) One → Byte s at tag → Byte s (at + 1) 128
-        → closedAt s (read 13 (inside F.Field tag) s (at + 2)) ≡ End n → ChoiceElement One s k at n
-    as-field = tag-choice 13 s F.Field 165 (omega arith) (λ b. refl) One tag k at n
-
-  field-read : (One : ℕ → ℕ → Type 0) (tag at n : ℕ) → 160 ≤ tag → tag ≤ 165 → Reads (read 13 (inside F.Field tag) s) One → ChoiceElement One s tag at n
-      → read 14 F.Field s at ≡ End n
-  field-read = tag-read 13 s F.Field 165 (omega arith) (λ b. refl)
-
-  pub field-reads : Reads (read 14 F.Field s) FieldAt
-  field-reads =
-      record {
-        sound = λ at n e. go at n (tagged 13 s F.Field 165 (omega arith) (λ b. refl) at n (read-began 13 F.Field s at n e));
-        full = λ at n f. back at n (f .0) (f .1);
-      }
-    where
-      go : (at n : ℕ) → (tag : ℕ) × (160 ≤ tag) × (tag ≤ 165) × Byte s at tag × Byte s (at + 1) 128
-          × (closedAt s (read 13 (inside F.Field tag) s (at + 2)) ≡ End n)
-          → FieldAt at n
-      go at n (tag, l, h, y, o, e) =
-          bool-cases (eqb tag 160) (λ q. (160, Z.title (as-field (TextElement s) tag 160 at n (eqb-true tag 160 q) (text-reads 12 s) y o e)))
-          (λ q0. bool-cases (eqb tag 161)
-          (λ q. (161, Z.seqid (as-field (ListElement (IdentifierElement s) s) tag 161 at n (eqb-true tag 161 q) identifiers-reads y o e)))
-          (λ q1. bool-cases (eqb tag 162) (λ q. (162, Z.taxid (as-field (IntegerElement s) tag 162 at n (eqb-true tag 162 q) (integer-reads 12 s) y o e)))
-          (λ q2. bool-cases (eqb tag 163)
-          (λ q. (163, Z.memberships (as-field (ListElement (IntegerElement s) s) tag 163 at n (eqb-true tag 163 q) (integers-reads 11 s) y o e)))
-          (λ q3. bool-cases (eqb tag 164)
-          (λ q. (164, Z.links (as-field (ListElement (IntegerElement s) s) tag 164 at n (eqb-true tag 164 q) (integers-reads 11 s) y o e)))
-          (λ q4.
-          let n0 = eqb-false tag 160 q0 in
-          let n1 = eqb-false tag 161 q1 in
-          let n2 = eqb-false tag 162 q2 in
-          let n3 = eqb-false tag 163 q3 in
-          let n4 = eqb-false tag 164 q4 in
-          let w : tag ≡ 165 = omega arith in
-          (165, Z.info (as-field (ListElement (IntegerElement s) s) tag 165 at n w (integers-reads 11 s) y o e)))))))
-
-      back : (at n tag : ℕ) → FieldElement s at n tag → read 14 F.Field s at ≡ End n
-      back at n tag (Z.title c) = field-read (TextElement s) 160 at n (omega arith) (omega arith) (text-reads 12 s) c
-      back at n tag (Z.seqid c) = field-read (ListElement (IdentifierElement s) s) 161 at n (omega arith) (omega arith) identifiers-reads c
-      back at n tag (Z.taxid c) = field-read (IntegerElement s) 162 at n (omega arith) (omega arith) (integer-reads 12 s) c
-      back at n tag (Z.memberships c) = field-read (ListElement (IntegerElement s) s) 163 at n (omega arith) (omega arith) (integers-reads 11 s) c
-      back at n tag (Z.links c) = field-read (ListElement (IntegerElement s) s) 164 at n (omega arith) (omega arith) (integers-reads 11 s) c
-      back at n tag (Z.info c) = field-read (ListElement (IntegerElement s) s) 165 at n (omega arith) (omega arith) (integers-reads 11 s) c
-
-  -- fields that rise
-  rising-sound : (turns low p n : ℕ) → listEnd (read 14 F.Field s) F.DefLine turns low s p ≡ End n → RisingFields s low p n
-  unfolding listEnd
-  rising-sound zero low p n e = bad-not-end n e
-  rising-sound (suc turns) low p n e =
-      let P : ElementAnswer → Type 0 = λ x. x ≡ End n → RisingFields s low p n in
-      cond-elim P (closes s p) (λ c e. Z.close (close-bytes s p c) (same-end _ n e))
-      (λ _. cond-elim P (leb low (getD s p 0))
-      (λ l e.
-      let t = then-end (read 14 F.Field s p) (λ m. listEnd (read 14 F.Field s) F.DefLine turns (getD s p 0 + 1) s m) n e in
-      let f : FieldAt p (t .0) = field-reads .sound p (t .0) (t .1) in
-      let q : getD s p 0 ≡ f .0 = field-tag p (t .0) (f .0) (f .1) in
-      Z.field (f .0) (subst (λ (k : ℕ). low ≤ k) q (leb-true _ _ l)) (f .1)
-      (subst (λ (k : ℕ). RisingFields s (k + 1) (t .0) n) q (rising-sound turns (getD s p 0 + 1) (t .0) n (t .2))))
-      (λ _ e. bad-not-end n e))
-      e
-
-  rising-full : (turns low p n : ℕ) → length s < turns + p → RisingFields s low p n → listEnd (read 14 F.Field s) F.DefLine turns low s p ≡ End n
-  unfolding listEnd
-  rising-full zero low p n l (Z.close c q) = let w = c .first .there in absurd (omega arith)
-  rising-full (suc turns) low p n l (Z.close c q) = rw (bytes-close s p c) (ap End q)
-  rising-full zero low p n l (Z.field {q} tag h f t) = let w = ends-within 14 F.Field s p q (field-reads .full p q (tag, f)) in absurd (omega arith)
-  rising-full (suc turns) low p n l (Z.field {q} tag h f t) =
-      let e = field-reads .full p q (tag, f) in
-      let w = ends-within 14 F.Field s p q e in
-      let g : getD s p 0 ≡ tag = field-tag p q tag f in
-      let k : low ≤ getD s p 0 = omega arith in
-      rw (byte-not-close s p (read-byte 14 F.Field s p q e), le-leb _ _ k, e)
-      (rising-full turns (getD s p 0 + 1) q n (omega (arith, w .0)) (subst (λ (k : ℕ). RisingFields s (k + 1) q n) (sym g) t))
-
-  pub def-line-reads : Reads (read 15 F.DefLine s) (DefLineElement s)
+  pub def-line-reads : Reads (read 15 (F.Record R.DefLine) s) (DefLineElement s)
   def-line-reads =
-      record {
-        sound = λ at n e. go at n (read-began 14 F.DefLine s at n e);
-        full = λ at n l. began-read 14 F.DefLine s at n (B.list refl (l .tag) (l .opened) (rising-full (length s) 0 (at + 2) n (omega arith) (l .fields)));
-      }
-    where
-      go : (at n : ℕ) → Began (λ i p. read 14 i s p) F.DefLine s at n → DefLineElement s at n
-      go at n (B.integer m y e) = never m
-      go at n (B.text m y e) = never m
-      go at n (B.list m y o e) = record { tag = y; opened = o; fields = rising-sound (length s) 0 (at + 2) n e }
-      go at n (B.choice tag l h m y o e) = no-choice 48 tag (omega arith) l m
+      let k = R.DefLine in
+      record-reads 13 s k
+      (optional 13 s k 160 (text-reads 12 s)
+      (optional 13 s k 161 identifiers-reads
+      (optional 13 s k 162 (integer-reads 12 s)
+      (optional 13 s k 163 (integers-reads 11 s)
+      (optional 13 s k 164 (integers-reads 11 s)
+      (optional 13 s k 165 (integers-reads 11 s)
+      (ended 13 s k 166 refl) refl) refl) refl) refl) refl) refl)
 
   -- a set of def-lines, at depth 1
   pub def-lines-reads : Reads (read 16 F.DefLines s) (DefLinesElement s)
-  def-lines-reads = list-reads 15 s F.DefLines (DefLineElement s) (λ b. refl) (λ low b. refl) def-line-reads
-
--- ---- what a form reads, the nesting reads too, also with more depths left
-
-module _ (s : List ℕ) where
-  list-any : (depth more : ℕ) (i form : Form) → ((q m : ℕ) → read depth i s q ≡ End m → read more F.Any s q ≡ End m)
-      → (turns low other p n : ℕ) → listEnd (read depth i s) form turns low s p ≡ End n → listEnd (read more F.Any s) F.Any turns other s p ≡ End n
-  unfolding listEnd
-  list-any depth more i form h zero low other p n e = e
-  list-any depth more i form h (suc turns) low other p n e =
-      let g : ElementAnswer → Type 0 = λ x. x ≡ End n
-      → cond (closes s p) (End (p + 2)) (andThen (read more F.Any s p) (λ m. listEnd (read more F.Any s) F.Any turns (getD s p 0 + 1) s m)) ≡ End n in
-      cond-elim g (closes s p) (λ c e. rw c e)
-      (λ c. cond-elim g (mayFollow form low (getD s p 0))
-      (λ _ e.
-      let t = then-end (read depth i s p) (λ m. listEnd (read depth i s) form turns (getD s p 0 + 1) s m) n e in
-      rw (c, h p (t .0) (t .1)) (list-any depth more i form h turns (getD s p 0 + 1) (getD s p 0 + 1) (t .0) n (t .2)))
-      (λ _ e. bad-not-end n e))
-      e
-
-  closed-any : (x y : ElementAnswer) (n : ℕ) → ((m : ℕ) → x ≡ End m → y ≡ End m) → closedAt s x ≡ End n → closedAt s y ≡ End n
-  closed-any (End m) y n h e = ap (closedAt s) (h m refl) ∙ e
-  closed-any (Refused r) y n h e = absurd (let z : _≡_ {A = ℕ} 0 1 = cc in omega arith)
-
-  pub any-reads : (depth more : ℕ) (form : Form) (at n : ℕ) → depth ≤ more → read depth form s at ≡ End n → read more F.Any s at ≡ End n
-  any-reads zero more form at n l e = read-none form s at n e
-  any-reads (suc depth) zero form at n l e = absurd (omega arith)
-  any-reads (suc depth) (suc more) form at n l e =
-      let h : depth ≤ more = omega arith in
-      go (λ i q m t. any-reads depth more i q m h t) (read-began depth form s at n e)
-    where
-      go : ((i : Form) (q m : ℕ) → read depth i s q ≡ End m → read more F.Any s q ≡ End m) → Began (λ i p. read depth i s p) form s at n
-          → read (suc more) F.Any s at ≡ End n
-      go h (B.integer m y e) = began-read more F.Any s at n (B.integer refl y e)
-      go h (B.text m y e) = began-read more F.Any s at n (B.text refl y e)
-      go h (B.list m y o e) =
-          began-read more F.Any s at n (B.list refl y o (list-any depth more (inside form 48) form (h (inside form 48)) (length s) 0 0 (at + 2) n e))
-      go h (B.choice tag l k m y o e) =
-          began-read more F.Any s at n
-          (B.choice tag l k refl y o (closed-any (read depth (inside form tag) s (at + 2)) (read more F.Any s (at + 2)) n
-          (λ q t. h (inside form tag) (at + 2) q t) e))
+  def-lines-reads = list-reads 15 s F.DefLines (DefLineElement s) (λ b. refl) (λ low b. refl) (λ low. refl) def-line-reads

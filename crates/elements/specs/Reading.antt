@@ -13,7 +13,7 @@ use Rattle.elements.specs.declared.SpanAnswer.the-variants as S
 use Rattle.elements.specs.declared.Start.{Start}
 use Rattle.elements.specs.declared.Start.the-variants as B
 use Rattle.elements.specs.declared.Form.{Form}
-use Rattle.elements.specs.Grammar.{inRange, mayBegin, inside, mayFollow}
+use Rattle.elements.specs.Grammar.{inRange, mayBegin, inside, mayFollow, mayClose}
 use Rattle.elements.specs.Parts.{integerPart, textPart}
 
 -- A malformed record (20).
@@ -64,17 +64,18 @@ abbrev pub closedAt : List ℕ → ElementAnswer → ElementAnswer
 closedAt s (End n) = cond (closes s n) (End (n + 2)) bad
 closedAt s (Refused r) = Refused r
 
--- Elements, each where it may follow, up to 00 00. Each takes a byte, so as many turns as there are bytes are enough.
+-- Elements, each where it may follow, up to 00 00, which stands where the list may close. Each takes a byte, so as many turns as there are bytes are
+-- enough.
 unfoldable pub listEnd : (ℕ → ElementAnswer) → Form → ℕ → ℕ → List ℕ → ℕ → ElementAnswer
 listEnd inner form zero low s at = bad
 listEnd inner form (suc turns) low s at =
-    cond (closes s at) (End (at + 2))
+    cond (closes s at) (cond (mayClose form low) (End (at + 2)) bad)
     (cond (mayFollow form low (getD s at 0)) (andThen (inner at) (λ n. listEnd inner form turns (getD s at 0 + 1) s n)) bad)
 
--- The rest of an element that has begun; `inner` reads the elements inside it.
+-- The rest of an element that has begun; `inner` reads the elements inside it. No tag is past where a list begins, and A0 is the first.
 abbrev pub restOf : (Form → ℕ → ElementAnswer) → Form → List ℕ → ℕ → Start → ElementAnswer
 restOf inner form s at (B.Ended answer) = answer
-restOf inner form s at (B.List i) = listEnd (inner i) form (length s) 0 s (at + 2)
+restOf inner form s at (B.List i) = listEnd (inner i) form (length s) 160 s (at + 2)
 restOf inner form s at (B.Choice i) = closedAt s (inner i (at + 2))
 
 -- The element at a place by a form, with so many depths left: reading goes down element by element, one depth less inside each.

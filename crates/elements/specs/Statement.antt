@@ -55,6 +55,40 @@ pub record ChoiceElement (One : ℕ → ℕ → Type 0) (s : List ℕ) (tag at n
   pub closed : Close s stop
   pub ends : stop + 2 ≡ n
 
+-- A choice of two: the first under A0, the second under A1.
+pub data EitherElement (First Second : ℕ → ℕ → Type 0) (s : List ℕ) (at n : ℕ) : Type 0 where
+  first : ChoiceElement First s 160 at n → EitherElement First Second s at n
+  second : ChoiceElement Second s 161 at n → EitherElement First Second s at n
+
+-- One thing and then another: the first stands from p up to a place, and what is more from there up to n.
+pub record Then (First More : ℕ → ℕ → Type 0) (p n : ℕ) : Type 0 where
+  pub stop : ℕ
+  pub first : First p stop
+  pub more : More stop n
+
+-- What may be left out.
+pub data Maybe (One : ℕ → ℕ → Type 0) (p q : ℕ) : Type 0 where
+  given : One p q → Maybe One p q
+  absent : p ≡ q → Maybe One p q
+
+-- The fields of a record: one that is required, one that is optional, and 00 00 behind the last. A field is tagged as a choice is; `One` says what it
+-- holds, and `More` is the record's next field.
+abbrev pub Required : List ℕ → ℕ → (ℕ → ℕ → Type 0) → (ℕ → ℕ → Type 0) → ℕ → ℕ → Type 0
+Required s tag One More p n = Then (ChoiceElement One s tag) More p n
+
+abbrev pub Optional : List ℕ → ℕ → (ℕ → ℕ → Type 0) → (ℕ → ℕ → Type 0) → ℕ → ℕ → Type 0
+Optional s tag One More p n = Then (Maybe (ChoiceElement One s tag)) More p n
+
+pub record Ended (s : List ℕ) (p n : ℕ) : Type 0 where
+  pub close : Close s p
+  pub ends : p + 2 ≡ n
+
+-- A record: 30 80, its fields in their order, 00 00.
+pub record RecordElement (Fields : ℕ → ℕ → Type 0) (s : List ℕ) (at n : ℕ) : Type 0 where
+  pub tag : Byte s at 48
+  pub opened : Byte s (at + 1) 128
+  pub fields : Fields (at + 2) n
+
 -- An element of any kind; a choice's tag is A0 to B3.
 pub data AnyElement (One : ℕ → ℕ → Type 0) (s : List ℕ) (at n : ℕ) : Type 0 where
   integer : IntegerElement s at n → AnyElement One s at n

@@ -5,6 +5,7 @@ use answers::Refusal;
 use grammar::form_inside;
 use grammar::in_range;
 use grammar::may_begin;
+use grammar::may_close;
 use grammar::may_follow;
 ghost use mathlib.Core.Path.{_≡_};
 ghost use Prim.Native.Nat.{_+_, _^_, _≤_};
@@ -13,18 +14,33 @@ ghost use Rattle.laws.specs.Digits.{value};
 ghost use Rattle.elements.specs.Parts.{bytesOf, partAt, integerAllowed, integerPart, longPart, textPart, Within, integerOf, integerAt, textAt};
 ghost use Rattle.elements.specs.Reading.{opens, closes, begins, tooDeep, endOf, startOf, closedAt, read};
 
-// What an element at a place has to be; Any asks for nothing but the nesting.
+// The records of source 001, which have fields.
+pub enum RecordKind {
+    DefLine,
+    GiimportId,
+    TextseqId,
+    PatentSeqId,
+    IdPat,
+    Dbtag,
+    PdbSeqId,
+    DateStd,
+}
+
+// What an element at a place has to be; Any asks for nothing but the nesting. A field stands in a record; an identifier, an object-id, a
+// patent's number and a date are choices.
 pub enum Form {
     Any,
     Integer,
     Text,
     Integers,
     DefLines,
-    DefLine,
-    Field,
     Identifiers,
+    Record(RecordKind),
+    Field(RecordKind),
     Identifier,
     ObjectId,
+    PatentNumber,
+    Date,
 }
 
 // A part of a header file.
@@ -267,7 +283,7 @@ fn element_within(s: &[u8], at: usize, form: Form, depth: u32) -> ElementAnswer
         }
         Start::List(inner) => {
             let mut p = at + 2;
-            let mut low: u32 = 0;
+            let mut low: u32 = 160;
             while !closes_at(s, p) {
                 let b = fields::byte(s, p) as u32;
                 if !may_follow(form, low, b) {
@@ -279,6 +295,9 @@ fn element_within(s: &[u8], at: usize, form: Form, depth: u32) -> ElementAnswer
                 };
                 low = b + 1;
                 p = n;
+            }
+            if !may_close(form, low) {
+                return ElementAnswer::Refused(Refusal::BadHeader);
             }
             ElementAnswer::End(p + 2)
         }

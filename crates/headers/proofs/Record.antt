@@ -19,7 +19,8 @@ use Rattle.elements.specs.declared.ElementAnswer.the-variants.{End, Refused}
 use Rattle.elements.specs.declared.Form.the-variants as F
 use Rattle.elements.specs.Reading.{read}
 use Rattle.elements.proofs.Reading.{ends-within}
-use Rattle.elements.proofs.Shape.{any-reads, def-lines-reads}
+use Rattle.elements.proofs.Shape.{def-lines-reads}
+use Rattle.elements.proofs.Nesting.{any-reads}
 use Rattle.headers.specs.Record.{isRead, endsAt, elementRules, recordRules, checkRecord}
 use Rattle.headers.specs.Statement.{GoodRecord}
 

@@ -16,7 +16,8 @@ use Rattle.headers.specs.Record.{checkRecord}
 use Rattle.deflines.specs.declared.TitleAnswer.the-variants as T
 use Rattle.deflines.specs.declared.TitleSearch.the-variants as A
 use Rattle.deflines.specs.Fields.{titlesOf}
-use Rattle.deflines.specs.Calls.{titleFrom, titleGiven, titleOf}
+use Rattle.deflines.specs.Numbered.{titleFrom}
+use Rattle.deflines.specs.Calls.{titleGiven, titleOf}
 use Rattle.deflines.proofs.Calls.{title-passed}
 use Rattle.deflines.proofs.Count.{title-found, title-left}
 use Rattle.labels.specs.declared.Step.{Step}

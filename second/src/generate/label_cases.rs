@@ -1,8 +1,9 @@
 //! Cases for the label call.
 
+use super::identifier_cases::{self, Placed};
 use super::nodes::{self, Node};
 use super::order::Order;
-use super::record_faults::{in_identifier, malformed_elements, wrong_shapes};
+use super::record_faults::{malformed_lines, wrong_shapes};
 use super::record_rules::{self, Parts, ARRANGEMENTS};
 use super::rng::Rng;
 use super::rules::{by_chance, lifted, order, rule, sides_and_pairs, Change, Damaged, Rule};
@@ -152,6 +153,7 @@ pub fn planned(rng: &mut Rng, samples: &Samples) -> Vec<Case> {
     }
     cases.extend(titles(rng));
     cases.extend(wrong_ones(rng));
+    cases.extend(bodies(rng));
     cases.extend(real(samples));
     cases
 }
@@ -159,15 +161,26 @@ pub fn planned(rng: &mut Rng, samples: &Samples) -> Vec<Case> {
 /// Every kind of malformed element and of wrong shape by itself, and whole records that are wrong.
 fn wrong_ones(rng: &mut Rng) -> Vec<Case> {
     let mut cases = Vec::new();
-    let mut lines: Vec<Vec<Node>> =
-        malformed_elements(rng).into_iter().map(|raw| vec![in_identifier(Node::Raw(raw))]).collect();
-    lines.extend(wrong_shapes(rng));
-    for line in lines {
+    for line in [malformed_lines(rng), wrong_shapes(rng)].concat() {
         let mut plan = to_damage(rng.below(2) as i128, rng);
         let note = format!("{line:02x?}");
         let chosen = plan.chosen;
         plan.records[chosen].lines.push(line);
         cases.push(Case::aimed(plan.call(), BAD_RECORD, note));
+    }
+    cases
+}
+
+/// Records with identifiers of every kind, right and wrong.
+fn bodies(rng: &mut Rng) -> Vec<Case> {
+    let right = identifier_cases::right_ones(rng).into_iter().map(|placed| (placed, 0));
+    let wrong = identifier_cases::wrong_ones(rng).into_iter().map(|placed| (placed, BAD_RECORD));
+    let mut cases = Vec::new();
+    for (Placed { words, lines, .. }, aim) in right.chain(wrong) {
+        let mut plan = Plan::by_chance(rng.below(2) as i128, 2, rng);
+        let chosen = plan.chosen;
+        plan.records[chosen] = Parts::new(lines);
+        cases.push(Case::aimed(plan.call(), aim, words));
     }
     cases
 }

@@ -2,10 +2,15 @@
 //! limit, two faults at once, real samples, and random changes. The same seed makes the same cases.
 
 pub mod base_cases;
+pub mod bodies;
 pub mod decode_cases;
 pub mod decode_rules;
+pub mod definitions;
 pub mod dna;
+pub mod identifier_cases;
+pub mod identifier_rules;
 pub mod index_rules;
+pub mod kind_cases;
 pub mod label_cases;
 pub mod large;
 pub mod lookup_cases;
@@ -81,7 +86,7 @@ impl Case {
 }
 
 /// The calls that have a generator: all of them.
-pub const GENERATED: [u8; 15] = [
+pub const GENERATED: [u8; 16] = [
     VOLUME_CHECK,
     DECODE,
     PACK,
@@ -97,6 +102,7 @@ pub const GENERATED: [u8; 15] = [
     PAGE,
     WRITE_NUCLEOTIDES,
     BASES_OF_CODE,
+    KIND_NAME,
 ];
 
 /// The cases of a call: every planned one, then random ones until there are as many as asked.
@@ -121,6 +127,7 @@ pub fn planned(byte: u8, rng: &mut Rng, samples: &Samples) -> Vec<Case> {
         PAGE => page_cases::planned(rng, samples),
         WRITE_NUCLEOTIDES => nucleotide_cases::planned(rng, samples),
         BASES_OF_CODE => base_cases::planned(rng),
+        KIND_NAME => kind_cases::planned(rng),
         other => panic!("no generator for call {other}"),
     }
 }
@@ -139,6 +146,7 @@ pub fn orders(byte: u8) -> Vec<Order> {
         PAGE => page_cases::orders(),
         WRITE_NUCLEOTIDES => nucleotide_cases::orders(),
         BASES_OF_CODE => base_cases::orders(),
+        KIND_NAME => kind_cases::orders(),
         other => panic!("no generator for call {other}"),
     }
 }
@@ -157,6 +165,7 @@ pub fn random(byte: u8, rng: &mut Rng) -> Case {
         PAGE => page_cases::random(rng),
         WRITE_NUCLEOTIDES => nucleotide_cases::random(rng),
         BASES_OF_CODE => base_cases::random(rng),
+        KIND_NAME => kind_cases::random(rng),
         other => panic!("no generator for call {other}"),
     }
 }

@@ -1,5 +1,7 @@
 //! Header records as trees that can also be malformed, and valid ones by chance.
 
+use super::bodies::by_chance;
+use super::definitions::IDENTIFIER;
 use super::rng::Rng;
 use crate::fields::big_bytes;
 
@@ -61,20 +63,8 @@ pub fn text(rng: &mut Rng) -> Node {
     Node::Text(form, rng.bytes(length))
 }
 
-/// Any well-formed element whose own depth and what is inside it stay within the levels given, at least one.
-pub fn any(levels: usize, rng: &mut Rng) -> Node {
-    match rng.below(if levels > 1 { 5 } else { 2 }) {
-        0 => integer(rng),
-        1 => short_text(rng),
-        2 | 3 => {
-            let count = rng.below(3);
-            Node::List((0..count).map(|_| any(levels - 1, rng)).collect())
-        }
-        _ => choice(tag(rng), any(levels - 1, rng)),
-    }
-}
-
-fn short_text(rng: &mut Rng) -> Node {
+/// A text of at most 8 bytes.
+pub fn short_text(rng: &mut Rng) -> Node {
     let length = rng.below(9);
     Node::Text(0, rng.bytes(length))
 }
@@ -97,37 +87,7 @@ pub fn lists(levels: usize, inside: Node) -> Node {
 
 /// An identifier of any kind. Its body begins at depth 6 of a record.
 pub fn identifier(rng: &mut Rng) -> Node {
-    match rng.below(8) {
-        0 => choice(0xA0, choice(0xA0, integer(rng))),
-        1 => choice(0xA0, choice(0xA1, text(rng))),
-        2 => choice(0xAB, integer(rng)),
-        _ => other_identifier(rng),
-    }
-}
-
-/// An identifier that is neither local nor gi, as 001 has it or with another body.
-fn other_identifier(rng: &mut Rng) -> Node {
-    let tag = loop {
-        let tag = tag(rng);
-        if tag != 0xA0 && tag != 0xAB {
-            break tag;
-        }
-    };
-    let body = match rng.below(4) {
-        0 => Node::List(vec![
-            choice(0xA0, short_text(rng)),
-            choice(0xA1, short_text(rng)),
-            choice(0xA3, integer(rng)),
-        ]),
-        1 => Node::List(vec![choice(0xA0, short_text(rng)), choice(0xA1, choice(0xA0, integer(rng)))]),
-        2 => any(5, rng),
-        _ => {
-            let levels = rng.between(0, 10);
-            let inside = any(1, rng);
-            nested(levels, inside, rng)
-        }
-    };
-    choice(tag, body)
+    by_chance(IDENTIFIER, rng)
 }
 
 /// The fields of a def-line, each there or not.

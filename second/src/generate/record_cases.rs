@@ -1,5 +1,6 @@
 //! Cases for the walker's step and the identifier call.
 
+use super::identifier_cases::{right_ones, wrong_ones, Placed};
 use super::nodes::{self, Node};
 use super::order::Order;
 use super::record_faults::*;
@@ -136,6 +137,7 @@ pub fn planned(byte: u8, rng: &mut Rng, samples: &Samples) -> Vec<Case> {
     cases.extend(depths(byte, rng));
     cases.extend(whole_records(byte, rng));
     cases.extend(every_fault(byte, rng));
+    cases.extend(bodies(byte, rng));
     cases.extend(cuts(byte, rng));
     cases.extend(real(byte, samples));
     cases
@@ -156,26 +158,26 @@ fn numbers(byte: u8, rng: &mut Rng) -> Vec<Case> {
     cases
 }
 
-/// An identifier's body down to depth 16, and to 17, with each kind of element at the bottom.
+/// An identifier's body down to depth 16, and to 17, with each kind of element at the bottom. 001's own bodies end at
+/// depth 11: deeper ones pass the nesting, so that an element at depth 17 behind them is met, and have a wrong shape.
 fn depths(byte: u8, rng: &mut Rng) -> Vec<Case> {
     let mut cases = Vec::new();
     let bottoms =
         [Node::Integer(vec![5]), Node::Text(0, vec![65]), Node::List(vec![]), Node::Raw(vec![0xA9, 0x80])];
-    for (depth, bottom) in (14..=18).flat_map(|depth| bottoms.clone().map(|bottom| (depth, bottom))) {
+    for (depth, bottom) in (12..=18).flat_map(|depth| bottoms.clone().map(|bottom| (depth, bottom))) {
         // The body of an identifier stands at depth 6.
-        let is_choice = matches!(bottom, Node::Raw(_));
+        let is_whole = !matches!(bottom, Node::Raw(_));
         let body = nodes::nested(depth - 6, bottom, rng);
-        let fields = vec![
-            nodes::choice(0xA0, nodes::text(rng)),
-            nodes::choice(0xA1, Node::List(vec![nodes::choice(0xA4, body)])),
-        ];
-        let aim = match depth {
-            17.. => TOO_DEEP,
-            _ if is_choice => BAD_RECORD,
-            _ => 0,
-        };
-        let plan = Plan::new(vec![fields], rng);
+        let mut fields = vec![nodes::choice(0xA0, nodes::text(rng))];
+        fields.extend(in_list(nodes::choice(0xA4, body)));
+        let aim = if depth >= 17 { TOO_DEEP } else { BAD_RECORD };
+        let mut plan = Plan::new(vec![fields], rng);
         cases.push(Case::aimed(plan.call(byte), aim, format!("an element at depth {depth}")));
+        if is_whole && depth < 17 {
+            plan.record.lines.push(in_list(too_deep(5, rng)));
+            let note = format!("an element at depth {depth}, and one at 17 behind it");
+            cases.push(Case::aimed(plan.call(byte), TOO_DEEP, note));
+        }
     }
     for (outermost, aim) in [(16, BAD_RECORD), (17, TOO_DEEP)] {
         let record = nodes::lists(outermost - 1, Node::Integer(vec![1])).bytes();
@@ -208,15 +210,30 @@ fn whole_records(byte: u8, rng: &mut Rng) -> Vec<Case> {
 
 /// Every kind of malformed element and of wrong shape by itself, in a record that is good otherwise.
 fn every_fault(byte: u8, rng: &mut Rng) -> Vec<Case> {
-    let mut lines: Vec<Vec<Node>> =
-        malformed_elements(rng).into_iter().map(|raw| vec![in_identifier(Node::Raw(raw))]).collect();
-    lines.extend(wrong_shapes(rng));
+    let lines = [malformed_lines(rng), wrong_shapes(rng)].concat();
     let mut cases = Vec::new();
     for line in lines {
         let mut plan = Plan::by_chance(byte, rng);
         let note = format!("{line:02x?}");
         plan.record.lines.push(line);
         cases.push(Case::aimed(plan.call(byte), BAD_RECORD, note));
+    }
+    cases
+}
+
+/// Identifiers of every kind, right and wrong. A right one is asked for itself; a wrong one refuses the call whichever
+/// number is asked for.
+fn bodies(byte: u8, rng: &mut Rng) -> Vec<Case> {
+    let mut cases = Vec::new();
+    for Placed { words, lines, number } in right_ones(rng) {
+        let mut plan = Plan::new(lines, rng);
+        plan.number = if byte == IDENTIFIER { number } else { 0 };
+        cases.push(Case::aimed(plan.call(byte), 0, words));
+    }
+    for (k, Placed { words, lines, number }) in wrong_ones(rng).into_iter().enumerate() {
+        let mut plan = Plan::new(lines, rng);
+        plan.number = [number, 0, 99][k % 3];
+        cases.push(Case::aimed(plan.call(byte), BAD_RECORD, words));
     }
     cases
 }
@@ -249,7 +266,7 @@ fn real(byte: u8, samples: &Samples) -> Vec<Case> {
         let Ok(index) = read_index(&volume.index) else { continue };
         for (k, two) in index.header_offsets.windows(2).enumerate().take(30) {
             let (start, end) = (two[0] as u64, two[1] as u64);
-            for number in 0..2 {
+            for number in 0..5 {
                 let call = call_on(&[], &volume.header, &[], Some((start, end)), number, byte);
                 cases.push(Case::free(call, format!("{} record {k}, number {number}", volume.name)));
             }

@@ -1,23 +1,50 @@
 //! What can be wrong with a record: its nesting (20), its depth (21), its shape (20).
 
-use super::nodes::{choice, integer, lists, nested, tag, text, Node};
+use super::bodies::wrong;
+use super::definitions::IDENTIFIER;
+use super::nodes::{choice, identifier, integer, lists, nested, tag, text, Node};
 use super::rng::Rng;
 
-/// Something in a place where any element may stand: the body of an identifier that nobody reads. What is inside
-/// begins at depth 7.
-pub fn in_identifier(inside: Node) -> Node {
-    choice(0xA1, Node::List(vec![choice(0xA4, Node::List(vec![inside]))]))
+/// A def-line with something in a list that is an identifier's body, at depth 7.
+pub fn in_identifier(inside: Node) -> Vec<Node> {
+    in_list(choice(0xA4, Node::List(vec![inside])))
 }
 
-/// A def-line that is malformed where any element may stand.
+/// A def-line with one identifier.
+pub fn in_list(identifier: Node) -> Vec<Node> {
+    vec![choice(0xA1, Node::List(vec![identifier]))]
+}
+
+/// A def-line with these bytes where 001 has what they begin: gi's integer, a local name's text, genbank's list, or an
+/// identifier. If they are malformed, nothing else is wrong.
+pub fn in_place(bytes: Vec<u8>) -> Vec<Node> {
+    let first = bytes.first().copied();
+    let raw = Node::Raw(bytes);
+    in_list(match first {
+        Some(0x02) => choice(0xAB, raw),
+        Some(0x1A) => choice(0xA0, choice(0xA1, raw)),
+        Some(0x30) => choice(0xA4, raw),
+        _ => raw,
+    })
+}
+
+/// A def-line with a malformed element.
 pub fn malformed(rng: &mut Rng) -> Vec<Node> {
-    let all = malformed_elements(rng);
-    vec![in_identifier(Node::Raw(rng.pick(&all).clone()))]
+    let all = malformed_lines(rng);
+    rng.pick(&all).clone()
 }
 
-/// Bytes that are no element, wherever one may begin in a list. Nothing behind them can mend it.
-pub fn malformed_elements(rng: &mut Rng) -> Vec<Vec<u8>> {
-    let tag = tag(rng);
+/// Every malformed element in a def-line of its own: in its place, and where 001 has none.
+pub fn malformed_lines(rng: &mut Rng) -> Vec<Vec<Node>> {
+    let all = malformed_elements(rng);
+    let elsewhere = all.iter().map(|bytes| in_identifier(Node::Raw(bytes.clone())));
+    all.iter().cloned().map(in_place).chain(elsewhere).collect()
+}
+
+/// Bytes that are no element, wherever one may begin. Nothing behind them can mend it.
+fn malformed_elements(rng: &mut Rng) -> Vec<Vec<u8>> {
+    // A kind of identifier whose body is an integer.
+    let tag = *rng.pick(&[0xA1, 0xA2, 0xAB]);
     vec![
         vec![0x02, 0x00],
         vec![0x02, 0x09, 1, 2, 3, 4, 5, 6, 7, 8, 9],
@@ -32,8 +59,10 @@ pub fn malformed_elements(rng: &mut Rng) -> Vec<Vec<u8>> {
         vec![0x1A, 0x84, 0x80, 0x00, 0x00, 0x00],
         vec![0x30, 0x00],
         vec![0x30, 0x81],
+        vec![0x30, 0x81, 0x00, 0x00],
         vec![tag, 0x00],
         vec![tag, 0x81],
+        vec![tag, 0x81, 0x02, 0x01, 0x05, 0x00, 0x00],
         vec![tag, 0x80, 0x00, 0x00],
         vec![tag, 0x80, 0x02, 0x01, 0x05, 0x00, 0x01],
         vec![tag, 0x80, 0x02, 0x01, 0x05, 0x02, 0x01, 0x05, 0x00, 0x00],
@@ -55,21 +84,18 @@ pub fn too_deep(depth: usize, rng: &mut Rng) -> Node {
     nested(17 - depth, Node::Raw(inside), rng)
 }
 
-/// As deep, but what stands at depth 17 cannot begin an element.
-pub fn wrong_at_the_bottom(depth: usize, rng: &mut Rng) -> Node {
-    let byte = *rng.pick(&[0x01, 0x80, 0x9F, 0xB4, 0xFF]);
-    nested(17 - depth, Node::Raw(vec![byte]), rng)
-}
-
 /// A field list that is well formed as elements but no def-line.
 pub fn wrong_shape(rng: &mut Rng) -> Vec<Node> {
+    if rng.chance(70) {
+        let all = wrong(IDENTIFIER, rng);
+        return in_list(rng.pick(&all).1.clone());
+    }
     let all = wrong_shapes(rng);
     rng.pick(&all).clone()
 }
 
-/// Every kind of them.
+/// Every kind of them but for what is wrong inside identifiers.
 pub fn wrong_shapes(rng: &mut Rng) -> Vec<Vec<Node>> {
-    let identifiers = |inside: Vec<Node>| choice(0xA1, Node::List(inside));
     let later = rng.between(0xA6, 0xB3) as u8;
     vec![
         vec![integer(rng)],
@@ -85,18 +111,8 @@ pub fn wrong_shapes(rng: &mut Rng) -> Vec<Vec<Node>> {
         vec![choice(0xA0, Node::List(vec![text(rng)]))],
         vec![choice(0xA1, text(rng))],
         vec![choice(0xA1, choice(0xAB, integer(rng)))],
-        vec![identifiers(vec![integer(rng)])],
-        vec![identifiers(vec![Node::List(vec![])])],
-        vec![identifiers(vec![choice(0xA0, integer(rng))])],
-        vec![identifiers(vec![choice(0xA0, text(rng))])],
-        vec![identifiers(vec![choice(0xA0, choice(0xA2, integer(rng)))])],
-        vec![identifiers(vec![choice(0xA0, choice(0xA2, text(rng)))])],
-        vec![identifiers(vec![choice(0xA0, choice(later, text(rng)))])],
-        vec![identifiers(vec![choice(0xA0, Node::List(vec![integer(rng)]))])],
-        vec![identifiers(vec![choice(0xA0, choice(0xA0, text(rng)))])],
-        vec![identifiers(vec![choice(0xA0, choice(0xA1, integer(rng)))])],
-        vec![identifiers(vec![choice(0xAB, text(rng))])],
-        vec![identifiers(vec![choice(0xAB, choice(0xA0, integer(rng)))])],
+        vec![choice(0xA1, integer(rng))],
+        in_list(Node::List(vec![identifier(rng)])),
         vec![choice(0xA2, text(rng))],
         vec![choice(0xA2, Node::List(vec![integer(rng)]))],
         vec![choice(0xA3, integer(rng))],

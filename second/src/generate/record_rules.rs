@@ -1,7 +1,8 @@
 //! The rules of a header record: nesting (20) and depth (21) left to right, then shape (20).
 
+use super::identifier_rules;
 use super::nodes::{choice, lists, Node};
-use super::record_faults::{in_identifier, malformed, too_deep, wrong_shape};
+use super::record_faults::{in_identifier, in_place, malformed, too_deep, wrong_shape};
 use super::rules::{rule, Rule};
 use crate::answers::*;
 
@@ -56,9 +57,9 @@ pub fn rules(arrangement: &'static str) -> Vec<Rule<Parts>> {
     rules
 }
 
-/// Puts bytes where any element may stand, at depth 7 in a def-line.
+/// Puts bytes into a def-line, where 001 has what they begin.
 fn inside(line: usize, bytes: Vec<u8>) -> impl Fn(&mut Parts) {
-    move |parts| parts.lines[line] = vec![in_identifier(Node::Raw(bytes.clone()))]
+    move |parts| parts.lines[line] = in_place(bytes.clone())
 }
 
 /// Adds the sides of a rule of nesting: bytes that pass, and bytes that do not.
@@ -77,22 +78,25 @@ fn sides(
     rule.farther(move |parts, rng| parts.lines[line] = malformed(rng))
 }
 
-/// A choice of this tag around an integer.
-fn tagged(tag: u8) -> Vec<u8> {
-    vec![tag, 0x80, 0x02, 0x01, 0x05, 0x00, 0x00]
+/// A choice of this tag around these bytes.
+fn tagged(tag: u8, inside: &[u8]) -> Vec<u8> {
+    [&[tag, 0x80], inside, &[0x00, 0x00]].concat()
 }
+
+const INTEGER: [u8; 3] = [0x02, 0x01, 0x05];
+const EMPTY_LIST: [u8; 4] = [0x30, 0x80, 0x00, 0x00];
 
 /// The nesting, broken in this def-line.
 pub fn nesting(line: usize) -> Vec<Rule<Parts>> {
     let tags = [0x01, 0x03, 0x19, 0x1B, 0x2F, 0x31, 0x80].map(|byte| (format!("{byte:02X}"), vec![byte]));
     let mut bad: Vec<(&str, Vec<u8>)> = tags.iter().map(|(name, bytes)| (&name[..], bytes.clone())).collect();
-    bad.extend([("9F", tagged(0x9F)), ("B4", tagged(0xB4)), ("FF", tagged(0xFF))]);
+    bad.extend([("9F", 0x9F), ("B4", 0xB4), ("FF", 0xFF)].map(|(name, tag)| (name, tagged(tag, &INTEGER))));
     let good = [
-        ("02", vec![0x02, 0x01, 0x05]),
+        ("02", INTEGER.to_vec()),
         ("1A", vec![0x1A, 0x00]),
-        ("30", vec![0x30, 0x80, 0x00, 0x00]),
-        ("A0", tagged(0xA0)),
-        ("B3", tagged(0xB3)),
+        ("30", EMPTY_LIST.to_vec()),
+        ("A0", tagged(0xA0, &tagged(0xA0, &INTEGER))),
+        ("B3", tagged(0xB3, &EMPTY_LIST)),
     ];
     let begins = rule(BAD_RECORD, "an element begins with 02, 1A, 30 or A0 to B3");
     let mut rules = vec![sides(begins, line, &good, &bad)];
@@ -144,34 +148,37 @@ fn lengths(line: usize) -> Vec<Rule<Parts>> {
 
 /// How lists and choices begin and end.
 fn brackets(line: usize) -> Vec<Rule<Parts>> {
-    let choice = |rest: &[u8]| [&[0xA4, 0x80], rest].concat();
+    let gi = |rest: &[u8]| [&[0xAB, 0x80], rest].concat();
     vec![
         sides(
             rule(BAD_RECORD, "80 stands behind 30 and behind A0 to B3"),
             line,
-            &[("30 80", vec![0x30, 0x80, 0, 0]), ("A4 80", tagged(0xA4))],
+            &[("30 80", EMPTY_LIST.to_vec()), ("AB 80", gi(&[2, 1, 5, 0, 0]))],
             &[
                 ("30 7F", vec![0x30, 0x7F, 0, 0]),
                 ("30 81", vec![0x30, 0x81, 0, 0]),
-                ("A4 7F", vec![0xA4, 0x7F, 2, 1, 5, 0, 0]),
-                ("A4 81", vec![0xA4, 0x81, 2, 1, 5, 0, 0]),
+                ("AB 7F", vec![0xAB, 0x7F, 2, 1, 5, 0, 0]),
+                ("AB 81", vec![0xAB, 0x81, 2, 1, 5, 0, 0]),
             ],
         ),
         sides(
             rule(BAD_RECORD, "a list ends with 00 00"),
             line,
-            &[("00 00", vec![0x30, 0x80, 2, 1, 5, 0, 0])],
-            &[("00 01", vec![0x30, 0x80, 2, 1, 5, 0, 1]), ("00 FF", vec![0x30, 0x80, 0, 0xFF])],
+            &[("00 00", vec![0x30, 0x80, 0xA3, 0x80, 2, 1, 5, 0, 0, 0, 0])],
+            &[
+                ("00 01", vec![0x30, 0x80, 0xA3, 0x80, 2, 1, 5, 0, 0, 0, 1]),
+                ("00 FF", vec![0x30, 0x80, 0, 0xFF]),
+            ],
         ),
         sides(
             rule(BAD_RECORD, "a choice has one element, then 00 00"),
             line,
-            &[("one", choice(&[2, 1, 5, 0, 0]))],
+            &[("one", gi(&[2, 1, 5, 0, 0]))],
             &[
-                ("none", choice(&[0, 0])),
-                ("two", choice(&[2, 1, 5, 2, 1, 5, 0, 0])),
-                ("one, then 00 01", choice(&[2, 1, 5, 0, 1])),
-                ("one, then 01 00", choice(&[2, 1, 5, 1, 0])),
+                ("none", gi(&[0, 0])),
+                ("two", gi(&[2, 1, 5, 2, 1, 5, 0, 0])),
+                ("one, then 00 01", gi(&[2, 1, 5, 0, 1])),
+                ("one, then 01 00", gi(&[2, 1, 5, 1, 0])),
             ],
         ),
     ]
@@ -179,18 +186,30 @@ fn brackets(line: usize) -> Vec<Rule<Parts>> {
 
 /// Lists down to depth 16, and these bytes where depth 17 begins.
 fn at_depth_17(bytes: Vec<u8>) -> Vec<Node> {
-    vec![in_identifier(lists(10, Node::Raw(bytes)))]
+    in_identifier(lists(10, Node::Raw(bytes)))
 }
 
 /// Lists down to depth 15, and a choice at depth 16 around these bytes.
 fn in_a_choice(bytes: Vec<u8>) -> Vec<Node> {
-    vec![in_identifier(lists(9, choice(0xA4, Node::Raw(bytes))))]
+    in_identifier(lists(9, choice(0xA4, Node::Raw(bytes))))
 }
 
-/// What is no element is 20 where depth 17 begins, too.
+/// Lists down to depth 15, and this element at depth 16.
+fn at_depth_16(node: Node) -> Vec<Node> {
+    in_identifier(lists(9, node))
+}
+
+/// What is no element is 20 where depth 17 begins, too. 001 has nothing that deep: what passes the nesting has a wrong
+/// shape, unless an element at depth 17 follows.
 fn bottom(line: usize) -> Rule<Parts> {
-    let mut one = rule(BAD_RECORD, "where depth 17 begins, a byte that begins no element is 20")
-        .passes("00 00 ends a list", move |parts: &mut Parts| parts.lines[line] = at_depth_17(vec![]));
+    let mut one = rule(BAD_RECORD, "where depth 17 begins, a byte that begins no element is 20").leads_to(
+        TOO_DEEP,
+        "00 00 ends a list, and 02 follows at depth 17",
+        move |parts: &mut Parts| {
+            parts.lines[line] = at_depth_17(vec![]);
+            parts.lines[line + 1] = at_depth_17(vec![0x02]);
+        },
+    );
     for byte in [0x01u8, 0x03, 0x80, 0x9F, 0xB4, 0xFF] {
         one = one.breaks(format!("{byte:02X}"), move |parts| parts.lines[line] = at_depth_17(vec![byte]));
     }
@@ -198,6 +217,7 @@ fn bottom(line: usize) -> Rule<Parts> {
         .breaks("00 in a choice", move |parts| parts.lines[line] = in_a_choice(vec![]))
 }
 
+/// An element at depth 16 passes the nesting and has a wrong shape.
 fn depth() -> Rule<Parts> {
     let mut one = rule(TOO_DEEP, "no element begins at depth 17");
     let good = [
@@ -206,8 +226,8 @@ fn depth() -> Rule<Parts> {
         ("a list at depth 16", Node::List(vec![])),
     ];
     for (value, node) in good {
-        one = one.passes(value, move |parts: &mut Parts| {
-            parts.lines[1] = vec![in_identifier(lists(9, node.clone()))];
+        one = one.leads_to(BAD_RECORD, value, move |parts: &mut Parts| {
+            parts.lines[1] = at_depth_16(node.clone());
         });
     }
     for byte in [0x02u8, 0x1A, 0x30, 0xA0, 0xB3] {
@@ -215,7 +235,11 @@ fn depth() -> Rule<Parts> {
             .breaks(format!("{byte:02X} in a list"), move |parts| parts.lines[1] = at_depth_17(vec![byte]))
             .breaks(format!("{byte:02X} in a choice"), move |parts| parts.lines[1] = in_a_choice(vec![byte]));
     }
-    one.farther(|parts, rng| parts.lines[1].push(too_deep(3, rng)))
+    one.leads_to(TOO_DEEP, "an integer at depth 16, and 02 follows at depth 17", |parts| {
+        parts.lines[1] = at_depth_16(Node::Integer(vec![5]));
+        parts.lines[2] = at_depth_17(vec![0x02]);
+    })
+    .farther(|parts, rng| parts.lines[1].push(too_deep(3, rng)))
 }
 
 fn nothing_behind() -> Rule<Parts> {
@@ -227,7 +251,7 @@ fn nothing_behind() -> Rule<Parts> {
 }
 
 /// Adds the sides of a rule of shape: fields that pass in a def-line, and fields that do not.
-fn fields(mut rule: Rule<Parts>, good: &[(&str, Vec<Node>)], bad: &[(&str, Vec<Node>)]) -> Rule<Parts> {
+pub fn fields(mut rule: Rule<Parts>, good: &[(&str, Vec<Node>)], bad: &[(&str, Vec<Node>)]) -> Rule<Parts> {
     for (value, fields) in good.iter().cloned() {
         rule = rule.passes(value, move |parts: &mut Parts| parts.lines[0] = fields.clone());
     }
@@ -237,11 +261,11 @@ fn fields(mut rule: Rule<Parts>, good: &[(&str, Vec<Node>)], bad: &[(&str, Vec<N
     rule.farther(|parts, rng| parts.lines[0] = wrong_shape(rng))
 }
 
-fn integer() -> Node {
+pub fn integer() -> Node {
     Node::Integer(vec![7])
 }
 
-fn text() -> Node {
+pub fn text() -> Node {
     Node::Text(0, vec![0x41])
 }
 
@@ -263,7 +287,7 @@ pub fn shape() -> Vec<Rule<Parts>> {
     let mut rules = vec![loose];
     rules.extend(field_tags());
     rules.extend(field_bodies());
-    rules.push(identifiers());
+    rules.extend(identifier_rules::rules());
     rules
 }
 
@@ -319,35 +343,4 @@ fn field_bodies() -> Vec<Rule<Parts>> {
             ],
         ),
     ]
-}
-
-/// Lists of identifiers; only local and gi have bodies that are read.
-fn identifiers() -> Rule<Parts> {
-    let (integer, text) = (integer(), text());
-    let one = |inside: Node| vec![choice(0xA1, Node::List(vec![inside]))];
-    let local = |tag: u8, inside: &Node| one(choice(0xA0, choice(tag, inside.clone())));
-    let gi = |inside: &Node| one(choice(0xAB, inside.clone()));
-    fields(
-        rule(BAD_RECORD, "A1 is a list of identifiers; local is a number or a text, gi a number"),
-        &[
-            ("none", vec![choice(0xA1, Node::List(vec![]))]),
-            ("local A0 number", local(0xA0, &integer)),
-            ("local A1 text", local(0xA1, &text)),
-            ("gi number", gi(&integer)),
-            ("A1 with anything", one(choice(0xA1, Node::List(vec![text.clone(), integer.clone()])))),
-            ("B3 with anything", one(choice(0xB3, integer.clone()))),
-        ],
-        &[
-            ("no list", vec![choice(0xA1, choice(0xAB, integer.clone()))]),
-            ("an integer in the list", one(integer.clone())),
-            ("a list in the list", one(Node::List(vec![]))),
-            ("local A0 text", local(0xA0, &text)),
-            ("local A1 number", local(0xA1, &integer)),
-            ("local A2 number", local(0xA2, &integer)),
-            ("local A2 text", local(0xA2, &text)),
-            ("local number without a tag", one(choice(0xA0, integer.clone()))),
-            ("gi text", gi(&text)),
-            ("gi in a choice", gi(&choice(0xA0, integer.clone()))),
-        ],
-    )
 }

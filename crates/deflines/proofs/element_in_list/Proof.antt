@@ -4,7 +4,7 @@ use mathlib.Core.Path.{refl, sym, _∙_}
 use lib.ListN.{length}
 use mathlib.Core.List.{[], _∷_}
 use Rattle.deflines.specs.Fields.{elementsIn}
-use Rattle.deflines.specs.Calls.{placeFrom}
+use Rattle.deflines.specs.Numbered.{placeFrom}
 use Rattle.deflines.proofs.Walks.{places, Rest, Turn, rest-none, turn-less, turn-here, turn-on, each-held}
 use borrow.Author.Needs.{needs}
 use Rattle.deflines.proofs.element_in_list.Statement.{statement}

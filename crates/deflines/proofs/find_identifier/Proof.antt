@@ -3,6 +3,7 @@
 use mathlib.Core.Path.{_≡_, sym, ap, _∙_}
 use Rattle.answers.specs.declared.Checked.the-variants as C
 use Rattle.headers.specs.Record.{checkRecord}
+use Rattle.deflines.specs.declared.IdentifierAnswer.the-variants as I
 use Rattle.deflines.specs.Calls.{identifierGiven}
 use Rattle.deflines.proofs.Calls.{passed-room, passed-sized, identifier-refused, identifier-passed}
 use Rattle.deflines.proofs.Identifiers.{identifier-room}
@@ -43,7 +44,8 @@ returns c = identifier-refused _ _ _ _ _ (sym (c .before .before .before .check-
 returns-2 : tie.Need-returns-2
 returns-2 c =
     let found = sym (c .before .before .p .given .1) ∙ c .before .before .before .before .identifier-in-record .ensures in
-    identifier-passed _ _ _ _ _ (passed (c .before .before .before .before .before .before)) (c .identifier-at .ensures ∙ ap (identifierGiven _) found)
+    identifier-passed _ _ _ _ _ (passed (c .before .before .before .before .before .before))
+    (ap I.Found (c .identifier-at .ensures) ∙ ap (identifierGiven _) found)
 
 returns-3 : tie.Need-returns-3
 returns-3 c =

@@ -4,7 +4,7 @@ use Prim.Native.Nat.{_-_}
 use mathlib.Core.Path.{refl, sym, _∙_}
 use lib.ListN.{length}
 use Rattle.deflines.specs.Fields.{fieldAt, fieldIdentifiers, identifiersIn}
-use Rattle.deflines.specs.Calls.{placeFrom}
+use Rattle.deflines.specs.Numbered.{placeFrom}
 use Rattle.deflines.proofs.Walks.{places, Rest, Turn, rest-none, turn-room, turn-less, turn-found, turn-left, turn-past}
 use Rattle.deflines.proofs.Fields.{no-identifiers, list-held, list-inside}
 use borrow.Author.Needs.{needs}

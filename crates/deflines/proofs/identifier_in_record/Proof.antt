@@ -3,7 +3,7 @@ use Prim.Native.Nat.{_-_}
 use mathlib.Core.Path.{refl, sym, _∙_}
 use lib.ListN.{length}
 use Rattle.deflines.specs.Fields.{identifiersIn, identifiersOf}
-use Rattle.deflines.specs.Calls.{placeFrom}
+use Rattle.deflines.specs.Numbered.{placeFrom}
 use Rattle.deflines.proofs.Walks.{places, Rest, Turn, rest-none, turn-room, turn-less, turn-found, turn-left}
 use borrow.Author.Needs.{needs}
 use Rattle.deflines.proofs.identifier_in_record.Statement.{statement}

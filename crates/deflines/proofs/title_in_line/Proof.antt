@@ -4,7 +4,7 @@ use Prim.Native.Nat.{_-_}
 use mathlib.Core.Path.{refl, sym, _∙_}
 use lib.ListN.{length}
 use Rattle.deflines.specs.Fields.{fieldAt, fieldTitles, titlesIn}
-use Rattle.deflines.specs.Calls.{titleFrom}
+use Rattle.deflines.specs.Numbered.{titleFrom}
 use Rattle.deflines.proofs.Walks.{titles, Rest, Turn, rest-none, turn-room, turn-less, turn-past, turn-here, turn-on}
 use Rattle.deflines.proofs.Fields.{title-held, no-title}
 use borrow.Author.Needs.{needs}

@@ -3,7 +3,7 @@ use Prim.Native.Nat.{_-_}
 use mathlib.Core.Path.{refl, sym, _∙_}
 use lib.ListN.{length}
 use Rattle.deflines.specs.Fields.{titlesIn, titlesOf}
-use Rattle.deflines.specs.Calls.{titleFrom}
+use Rattle.deflines.specs.Numbered.{titleFrom}
 use Rattle.deflines.proofs.Walks.{titles, Rest, Turn, rest-none, turn-room, turn-less, turn-found, turn-left}
 use borrow.Author.Needs.{needs}
 use Rattle.deflines.proofs.title_in_record.Statement.{statement}

@@ -7,7 +7,7 @@ use Prim.Native.Nat.{ℕ, _-_, _<_}
 use lib.ListN.{length}
 use Rattle.elements.specs.Reading.{read}
 use Rattle.elements.proofs.Reading.{ends-within, closes-within, Inner, read-deep, list-room, choice-room, read-started, read-choice}
-use Rattle.elements.proofs.Reading.{Rest, rest-begins, rest-ends, rest-stray, rest-refused, rest-passed}
+use Rattle.elements.proofs.Reading.{Rest, rest-begins, rest-ends, rest-short, rest-stray, rest-refused, rest-passed}
 use borrow.Author.Needs.{needs}
 use borrow.Fn.Kinds.{In}
 use borrow.Fn.PlainCycle.{Measures, is, falls, and}
@@ -16,6 +16,7 @@ use Rattle.elements.proofs.element_within.Kinds as element-kinds
 use Rattle.elements.proofs.+element_within.Lts-element_within as element-lts
 use Rattle.elements.proofs.closed.Reads as closed-reads
 use Rattle.elements.proofs.closes_at.Reads as closes-at-reads
+use Rattle.elements.proofs.grammar.may_close.Reads as may-close-reads
 use Rattle.elements.proofs.grammar.may_follow.Reads as may-follow-reads
 use Rattle.elements.proofs.start_of.Reads as start-of-reads
 use Rattle.elements.proofs.too_deep.Reads as too-deep-reads
@@ -49,6 +50,8 @@ claims t = (
   byte-reads.Learnt,
   may-follow-reads.Asked,
   may-follow-reads.Learnt,
+  may-close-reads.Asked,
+  may-close-reads.Learnt,
 )
 
 abbrev element-Inv-loop : element-lts.InvT-loop
@@ -149,21 +152,34 @@ element-loop-again t c =
     (c .before .before .before .element-within2 .ensures) (c .before .e .given .1)
     (ends-within _ _ _ _ _ (sym (c .before .before .before .element-within2 .ensures) ∙ c .before .e .given .1))
 
-element-add-t24 : (t : ℕ) → element-lts.Need-add-t24 (claims t) (element-at t) element.Post element-Inv-loop element-μ-loop
-element-add-t24 t c = let h = closes-within _ _ (sym (c .before .closes-at .ensures) ∙ not-false _ (c .if2 .left)) in omega arith
+element-may-close-requires : (t : ℕ) → element-lts.Need-may-close-requires (claims t) (element-at t) element.Post element-Inv-loop element-μ-loop
+element-may-close-requires t c κs = search needs
 
 element-returns-4 : (t : ℕ) → element-lts.Need-returns-4 (claims t) (element-at t) element.Post element-Inv-loop element-μ-loop
 element-returns-4 t c =
-    read-started _ _ _ (c .before .before .before .start-of .ensures) _ (c .before .before .before .before .if1 .left) (c .before .answer .given .1)
+    rest-short (c .before .before .before .before .loop .inv)
+    (sym (c .before .before .before .closes-at .ensures) ∙ not-false _ (c .before .before .if2 .left))
+    (sym (c .before .may-close .ensures) ∙ not-true _ (c .if4 .taken))
+
+element-add-end : (t : ℕ) → element-lts.Need-add-t27 (claims t) (element-at t) element.Post element-Inv-loop element-μ-loop
+element-add-end t c =
+    let h = closes-within _ _ (sym (c .before .before .before .closes-at .ensures) ∙ not-false _ (c .before .before .if2 .left)) in omega arith
 
 element-returns-5 : (t : ℕ) → element-lts.Need-returns-5 (claims t) (element-at t) element.Post element-Inv-loop element-μ-loop
 element-returns-5 t c =
+    read-started _ _ _ (c .before .before .before .start-of .ensures) _ (c .before .before .before .before .if1 .left) (c .before .answer .given .1)
+
+element-returns-6 : (t : ℕ) → element-lts.Need-returns-6 (claims t) (element-at t) element.Post element-Inv-loop element-μ-loop
+element-returns-6 t c =
     read-choice _ _ _ (c .before .before .before .before .before .start-of .ensures) _ (c .before .before .before .before .before .before .if1 .left)
     (c .before .before .before .inner .given .1)
     (c .before .element-within .ensures) (c .closed .ensures)
 
-element-returns-6 : (t : ℕ) → element-lts.Need-returns-6 (claims t) (element-at t) element.Post element-Inv-loop element-μ-loop
-element-returns-6 t c = rest-ends (c .before .before .loop .inv) (sym (c .before .closes-at .ensures) ∙ not-false _ (c .if2 .left))
+element-returns-7 : (t : ℕ) → element-lts.Need-returns-7 (claims t) (element-at t) element.Post element-Inv-loop element-μ-loop
+element-returns-7 t c =
+    rest-ends (c .before .before .before .before .loop .inv)
+    (sym (c .before .before .before .closes-at .ensures) ∙ not-false _ (c .before .before .if2 .left))
+    (sym (c .before .may-close .ensures) ∙ not-false _ (c .if4 .left))
 
 pub +element-within-spec : {M : Type 1} → statement M
 +element-within-spec = close μ-element λ t. element-lts.spec (claims t)
@@ -196,7 +212,9 @@ pub +element-within-spec : {M : Type 1} → statement M
     (element-add-low t)
     (element-loop-less t)
     (element-loop-again t)
-    (element-add-t24 t)
+    (element-may-close-requires t)
     (element-returns-4 t)
+    (element-add-end t)
     (element-returns-5 t)
     (element-returns-6 t)
+    (element-returns-7 t)

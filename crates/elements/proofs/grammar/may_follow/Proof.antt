@@ -1,89 +1,41 @@
--- `elements::grammar::may_follow`: each arm knows the form, and the definition computes there. Assumes nothing.
+-- `elements::grammar::may_follow`: the tests are those of the definition, in its order; another form than a record asks for nothing. Assumes nothing.
+use borrow.Author.Tests.{le-leb, lt-leb}
+use Rattle.elements.proofs.Forms.{free}
 use borrow.Author.Needs.{needs}
 use Rattle.elements.proofs.grammar.may_follow.Statement.{statement}
 use Rattle.elements.proofs.grammar.may_follow.Tie as tie
 
-enum-told : tie.Need-enum-told
-enum-told c = search needs
-
-enum-told-2 : tie.Need-enum-told-2
-enum-told-2 c = search needs
-
-enum-told-3 : tie.Need-enum-told-3
-enum-told-3 c = search needs
-
-enum-told-4 : tie.Need-enum-told-4
-enum-told-4 c = search needs
-
-enum-told-5 : tie.Need-enum-told-5
-enum-told-5 c = search needs
-
-enum-told-6 : tie.Need-enum-told-6
-enum-told-6 c = search needs
-
-enum-told-7 : tie.Need-enum-told-7
-enum-told-7 c = search needs
-
-enum-told-8 : tie.Need-enum-told-8
-enum-told-8 c = search needs
-
-enum-told-9 : tie.Need-enum-told-9
-enum-told-9 c = search needs
-
-enum-told-10 : tie.Need-enum-told-10
-enum-told-10 c = search needs
+enum-known-form : tie.Need-enum-known-form
+enum-known-form c = search needs
 
 returns : tie.Need-returns
-returns c = search needs
+returns c = let a = c .before .args in free (a .form) (c .match .keys2) .0 (a .low) (a .b)
 
 returns-2 : tie.Need-returns-2
-returns-2 c = search needs
+returns-2 c = rw (c .before .before .form .given .1, lt-leb _ _ (c .if1 .taken))
+
+optional-from-requires : tie.Need-optional-from-requires
+optional-from-requires c κs = search needs
 
 returns-3 : tie.Need-returns-3
-returns-3 c = search needs
+returns-3 c =
+    rw (
+      c .before .before .before .before .form .given .1,
+      le-leb _ _ (c .before .before .if1 .left),
+      ← c .before .optional-from .ensures,
+      le-leb _ _ (c .if2 .taken),
+    )
 
 returns-4 : tie.Need-returns-4
-returns-4 c = search needs
-
-returns-5 : tie.Need-returns-5
-returns-5 c = search needs
-
-returns-6 : tie.Need-returns-6
-returns-6 c = rw ((c .enum-told6) .given .1)
-
-returns-7 : tie.Need-returns-7
-returns-7 c = search needs
-
-returns-8 : tie.Need-returns-8
-returns-8 c = search needs
-
-returns-9 : tie.Need-returns-9
-returns-9 c = search needs
-
-returns-10 : tie.Need-returns-10
-returns-10 c = search needs
+returns-4 c =
+    rw (
+      c .before .before .before .before .form .given .1,
+      le-leb _ _ (c .before .before .if1 .left),
+      ← c .before .optional-from .ensures,
+      lt-leb _ _ (c .if2 .left),
+    )
 
 pub may-follow-spec : {M : Type 1} → statement M
 may-follow-spec =
     tie.close
-    (tie.spec
-    enum-told
-    enum-told-2
-    enum-told-3
-    enum-told-4
-    enum-told-5
-    enum-told-6
-    enum-told-7
-    enum-told-8
-    enum-told-9
-    enum-told-10
-    returns
-    returns-2
-    returns-3
-    returns-4
-    returns-5
-    returns-6
-    returns-7
-    returns-8
-    returns-9
-    returns-10)
+    (tie.spec enum-known-form returns returns-2 optional-from-requires returns-3 returns-4)
