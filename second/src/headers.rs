@@ -4,7 +4,7 @@ use crate::answers::*;
 use crate::elements::Element;
 use crate::identifiers::{identifier, Identifier};
 use crate::index::Part;
-use crate::shape::{integer, list_of, text, Fields};
+use crate::shape::{integer, list_of, sequence, text};
 
 /// What the calls need of a def-line.
 #[derive(Clone, Debug, PartialEq, Eq)]
@@ -21,13 +21,13 @@ pub fn def_lines(record: &Element) -> Answer<Vec<DefLine>> {
 /// A Blast-def-line: title, identifiers, taxonomy id, memberships, links, other information. Each may be absent.
 fn def_line(element: &Element) -> Answer<DefLine> {
     let integers = |body: &Element| list_of(body, integer);
-    let mut fields = Fields::of(element)?;
-    let title = fields.optional(0xA0, text)?;
-    let identifiers = fields.optional(0xA1, |body| list_of(body, identifier))?;
-    fields.optional(0xA2, integer)?;
-    fields.optional(0xA3, integers)?;
-    fields.optional(0xA4, integers)?;
-    fields.optional(0xA5, integers)?;
-    fields.end()?;
-    Ok(DefLine { title, identifiers: identifiers.unwrap_or_default() })
+    sequence(element, |fields| {
+        let title = fields.optional(0xA0, text)?;
+        let identifiers = fields.optional(0xA1, |body| list_of(body, identifier))?;
+        fields.optional(0xA2, integer)?;
+        fields.optional(0xA3, integers)?;
+        fields.optional(0xA4, integers)?;
+        fields.optional(0xA5, integers)?;
+        Ok(DefLine { title, identifiers: identifiers.unwrap_or_default() })
+    })
 }

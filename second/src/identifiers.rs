@@ -4,7 +4,7 @@
 use crate::answers::*;
 use crate::elements::Element;
 use crate::index::Part;
-use crate::shape::{choice, integer, text, Fields};
+use crate::shape::{choice, integer, sequence, text};
 
 /// The twenty kinds as 001 writes them. The first has the tag A0, each later one the next.
 pub const KIND_NAMES: [&str; 20] = [
@@ -93,10 +93,9 @@ pub struct Dbtag {
 }
 
 fn dbtag(element: &Element) -> Answer<Dbtag> {
-    let mut fields = Fields::of(element)?;
-    let dbtag = Dbtag { db: fields.required(0xA0, text)?, tag: fields.required(0xA1, object_id)? };
-    fields.end()?;
-    Ok(dbtag)
+    sequence(element, |fields| {
+        Ok(Dbtag { db: fields.required(0xA0, text)?, tag: fields.required(0xA1, object_id)? })
+    })
 }
 
 /// Object-id: `id` or `str`.
@@ -122,10 +121,9 @@ pub struct PatentSeqId {
 }
 
 fn patent_seq_id(element: &Element) -> Answer<PatentSeqId> {
-    let mut fields = Fields::of(element)?;
-    let patent = PatentSeqId { seqid: fields.required(0xA0, integer)?, cit: fields.required(0xA1, id_pat)? };
-    fields.end()?;
-    Ok(patent)
+    sequence(element, |fields| {
+        Ok(PatentSeqId { seqid: fields.required(0xA0, integer)?, cit: fields.required(0xA1, id_pat)? })
+    })
 }
 
 /// Textseq-id. Every field may be absent.
@@ -138,15 +136,14 @@ pub struct TextseqId {
 }
 
 fn textseq_id(element: &Element) -> Answer<TextseqId> {
-    let mut fields = Fields::of(element)?;
-    let textseq = TextseqId {
-        name: fields.optional(0xA0, text)?,
-        accession: fields.optional(0xA1, text)?,
-        release: fields.optional(0xA2, text)?,
-        version: fields.optional(0xA3, integer)?,
-    };
-    fields.end()?;
-    Ok(textseq)
+    sequence(element, |fields| {
+        Ok(TextseqId {
+            name: fields.optional(0xA0, text)?,
+            accession: fields.optional(0xA1, text)?,
+            release: fields.optional(0xA2, text)?,
+            version: fields.optional(0xA3, integer)?,
+        })
+    })
 }
 
 /// Giimport-id.
@@ -158,14 +155,13 @@ pub struct GiimportId {
 }
 
 fn giimport_id(element: &Element) -> Answer<GiimportId> {
-    let mut fields = Fields::of(element)?;
-    let import = GiimportId {
-        id: fields.required(0xA0, integer)?,
-        db: fields.optional(0xA1, text)?,
-        release: fields.optional(0xA2, text)?,
-    };
-    fields.end()?;
-    Ok(import)
+    sequence(element, |fields| {
+        Ok(GiimportId {
+            id: fields.required(0xA0, integer)?,
+            db: fields.optional(0xA1, text)?,
+            release: fields.optional(0xA2, text)?,
+        })
+    })
 }
 
 /// PDB-seq-id. A chain that is absent is 32.
@@ -177,14 +173,13 @@ pub struct PdbSeqId {
 }
 
 fn pdb_seq_id(element: &Element) -> Answer<PdbSeqId> {
-    let mut fields = Fields::of(element)?;
-    let pdb = PdbSeqId {
-        mol: fields.required(0xA0, text)?,
-        chain: fields.optional(0xA1, integer)?.unwrap_or(32),
-        rel: fields.optional(0xA2, date)?,
-    };
-    fields.end()?;
-    Ok(pdb)
+    sequence(element, |fields| {
+        Ok(PdbSeqId {
+            mol: fields.required(0xA0, text)?,
+            chain: fields.optional(0xA1, integer)?.unwrap_or(32),
+            rel: fields.optional(0xA2, date)?,
+        })
+    })
 }
 
 /// Id-pat: country, number and type of a patent.
@@ -196,14 +191,13 @@ pub struct IdPat {
 }
 
 fn id_pat(element: &Element) -> Answer<IdPat> {
-    let mut fields = Fields::of(element)?;
-    let patent = IdPat {
-        country: fields.required(0xA0, text)?,
-        id: fields.required(0xA1, patent_number)?,
-        doc_type: fields.optional(0xA2, text)?,
-    };
-    fields.end()?;
-    Ok(patent)
+    sequence(element, |fields| {
+        Ok(IdPat {
+            country: fields.required(0xA0, text)?,
+            id: fields.required(0xA1, patent_number)?,
+            doc_type: fields.optional(0xA2, text)?,
+        })
+    })
 }
 
 /// The choice inside Id-pat: `number` or `app-number`.
@@ -249,18 +243,17 @@ pub struct DateStd {
 }
 
 fn date_std(element: &Element) -> Answer<DateStd> {
-    let mut fields = Fields::of(element)?;
-    let date = DateStd {
-        year: fields.required(0xA0, integer)?,
-        month: fields.optional(0xA1, integer)?,
-        day: fields.optional(0xA2, integer)?,
-        season: fields.optional(0xA3, text)?,
-        hour: fields.optional(0xA4, integer)?,
-        minute: fields.optional(0xA5, integer)?,
-        second: fields.optional(0xA6, integer)?,
-    };
-    fields.end()?;
-    Ok(date)
+    sequence(element, |fields| {
+        Ok(DateStd {
+            year: fields.required(0xA0, integer)?,
+            month: fields.optional(0xA1, integer)?,
+            day: fields.optional(0xA2, integer)?,
+            season: fields.optional(0xA3, text)?,
+            hour: fields.optional(0xA4, integer)?,
+            minute: fields.optional(0xA5, integer)?,
+            second: fields.optional(0xA6, integer)?,
+        })
+    })
 }
 
 /// The name of a kind into the output's first bytes; gives its length. 4 where there is no such kind, then 13.

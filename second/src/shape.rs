@@ -45,11 +45,15 @@ pub struct Fields<'a> {
     rest: &'a [Element],
 }
 
-impl<'a> Fields<'a> {
-    pub fn of(sequence: &'a Element) -> Answer<Fields<'a>> {
-        Ok(Fields { rest: list(sequence)? })
-    }
+/// A SEQUENCE: its fields as `read` asks for them, and no other.
+pub fn sequence<T>(element: &Element, read: impl FnOnce(&mut Fields) -> Answer<T>) -> Answer<T> {
+    let mut fields = Fields { rest: list(element)? };
+    let value = read(&mut fields)?;
+    ask(fields.rest.is_empty(), BAD_RECORD)?;
+    Ok(value)
+}
 
+impl Fields<'_> {
     /// The field of this tag, where it is the next.
     pub fn optional<T>(&mut self, tag: u8, read: fn(&Element) -> Answer<T>) -> Answer<Option<T>> {
         match self.rest.split_first() {
@@ -63,10 +67,5 @@ impl<'a> Fields<'a> {
 
     pub fn required<T>(&mut self, tag: u8, read: fn(&Element) -> Answer<T>) -> Answer<T> {
         self.optional(tag, read)?.ok_or(BAD_RECORD)
-    }
-
-    /// No field may be left.
-    pub fn end(self) -> Answer<()> {
-        ask(self.rest.is_empty(), BAD_RECORD)
     }
 }

@@ -7,7 +7,7 @@ use borrow.Author.Tests.{eq-eqb, ne-eqb}
 use lib.ListN.{getD}
 use Rattle.elements.specs.declared.RecordKind.the-variants as R
 use Rattle.elements.specs.declared.Form.the-variants as F
-use Rattle.elements.specs.Statement.{ChoiceElement, Maybe, Ended}
+use Rattle.elements.specs.Statement.{ChoiceElement}
 use Rattle.elements.specs.Statement as E
 use Rattle.elements.specs.DefLines.{DateStdElement, DateElement, PatentNumberElement, IdPatElement, PdbSeqIdElement, GiimportIdElement}
 use Rattle.elements.specs.DefLines.{TextseqIdElement, PatentSeqIdElement, ObjectIdElement, DbtagElement, IdentifierElement}
@@ -15,12 +15,12 @@ use Rattle.elements.specs.DefLines as Z
 use Rattle.elements.proofs.Shape.{object-id-reads, patent-number-reads, id-pat-reads, date-reads}
 use Rattle.deflines.specs.declared.OptionalDate.the-variants as G
 use Rattle.deflines.specs.declared.Identifier.the-variants as D
-use Rattle.deflines.specs.Identifiers.{fieldIn, objectIdAt, importAt, textIdAt, patentNumberAt, patentAt, databaseTagAt, dateFieldsAt}
+use Rattle.deflines.specs.Identifiers.{objectIdAt, importAt, textIdAt, patentNumberAt, patentAt, databaseTagAt, dateFieldsAt}
 use Rattle.deflines.specs.Identifiers.{dateAt, optionalDate, structureAt, identifierAt}
 use Rattle.deflines.specs.Kinds.{objectIdWritten, importWritten, textIdWritten, patentNumberWritten, patentWritten, databaseTagWritten}
 use Rattle.deflines.specs.Kinds.{dateFieldsWritten, dateWritten, dateGiven, structureWritten, identifierWritten}
-use Rattle.deflines.proofs.Chains.{Whole, whole, text-whole, integer-whole, from-first, from-next, From, later-ended, later-optional, held-is}
-use Rattle.deflines.proofs.Chains.{given-found, absent-found, text-held, integer-held, required-text, required-integer, optional-text, optional-integer}
+use Rattle.deflines.proofs.Chains.{Whole, whole, text-whole, integer-whole, from-first, from-next, later-ended, later-optional, held-is}
+use Rattle.deflines.proofs.Chains.{optional-is, text-held, integer-held, required-text, required-integer, optional-text, optional-integer}
 
 -- ---- what stands in a field, the nesting reads
 
@@ -176,13 +176,8 @@ structure-known {s} {p} x =
     rw (
       required-text s refl at-mol mol,
       optional-integer s refl at-chain behind-chain chain,
-      released at-rel (rel .stop) (rel .first) (rel .more),
+      optional-is s (date-whole s) refl at-rel behind-rel (optionalDate s) (λ q m. dateGiven m) (λ q c. date-known (c .one)) (λ q e. refl) rel,
     )
-  where
-    released : {at n : ℕ} → From s p at 162 → (stop : ℕ) (m : Maybe (ChoiceElement (DateElement s) s 162) at stop) → Ended s stop n
-        → optionalDate s (fieldIn s p 162) ≡ dateGiven m
-    released r stop (E.given c) m = rw (given-found s (date-whole s) refl r c) (date-known (c .one))
-    released r stop (E.absent e) m = rw (absent-found s (date-whole s) refl r e (later-ended s 163) m)
 
 -- ---- by its kind
 

@@ -21,6 +21,8 @@ use Rattle.elements.proofs.Nesting.{any-reads}
 use Rattle.elements.proofs.Written.{text-written, integer-written}
 use Rattle.deflines.specs.declared.PlaceSearch.{PlaceSearch}
 use Rattle.deflines.specs.declared.PlaceSearch.the-variants as P
+use Rattle.deflines.specs.declared.OptionalText.the-variants as T
+use Rattle.deflines.specs.declared.OptionalInteger.the-variants as I
 use Rattle.deflines.specs.Numbered.{placeFrom}
 use Rattle.deflines.specs.Fields.{elementsLeft}
 use Rattle.deflines.specs.Identifiers.{textOr, integerOr, textHeld, integerHeld, withTag, fieldIn, heldAt, heldIn, optionalText, optionalInteger}
@@ -156,17 +158,23 @@ module _ (s : List ℕ) where
     pub required-integer : (x : Required s low (IntegerElement s) More p n) → integerHeld s (heldIn s list low) ≡ integerWritten (x .first .one)
     required-integer x = ap (integerHeld s) (held-is integer-whole g r (x .first)) ∙ integer-held (x .first .one)
 
-    pub optional-text : Later (low + 1) More → (x : Optional s low (TextElement s) More p n) → optionalText s (fieldIn s list low) ≡ textGiven (x .first)
-    optional-text l x = go (x .stop) (x .first) (x .more)
-      where
-        go : (q : ℕ) (m : Maybe (ChoiceElement (TextElement s) s low) p q) → More q n → optionalText s (fieldIn s list low) ≡ textGiven m
-        go q (E.given c) m = rw (given-found text-whole g r c, text-held (c .one))
-        go q (E.absent e) m = rw (absent-found text-whole g r e l m)
+  -- ---- a field that may be left out: what f makes of its place is what v makes of the field, given or absent
 
-    pub optional-integer : Later (low + 1) More → (x : Optional s low (IntegerElement s) More p n)
-        → optionalInteger s (fieldIn s list low) ≡ integerGiven (x .first)
-    optional-integer l x = go (x .stop) (x .first) (x .more)
+  module _ {One More : ℕ → ℕ → Type 0} (w : Whole One) {list p low n : ℕ} (g : inRange 160 179 low ≡ true) (r : From list p low)
+      (l : Later (low + 1) More) where
+    pub optional-is : {Y : Type 0} (f : PlaceSearch → Y) (v : (q : ℕ) → Maybe (ChoiceElement One s low) p q → Y)
+        → ((q : ℕ) (c : ChoiceElement One s low p q) → f (P.Found p) ≡ v q (E.given c)) → ((q : ℕ) (e : p ≡ q) → f (P.Left 0) ≡ v q (E.absent e))
+        → (x : Optional s low One More p n) → f (fieldIn s list low) ≡ v (x .stop) (x .first)
+    optional-is f v there none x = go (x .stop) (x .first) (x .more)
       where
-        go : (q : ℕ) (m : Maybe (ChoiceElement (IntegerElement s) s low) p q) → More q n → optionalInteger s (fieldIn s list low) ≡ integerGiven m
-        go q (E.given c) m = rw (given-found integer-whole g r c, integer-held (c .one))
-        go q (E.absent e) m = rw (absent-found integer-whole g r e l m)
+        go : (q : ℕ) (m : Maybe (ChoiceElement One s low) p q) → More q n → f (fieldIn s list low) ≡ v q m
+        go q (E.given c) m = ap f (given-found w g r c) ∙ there q c
+        go q (E.absent e) m = ap f (absent-found w g r e l m) ∙ none q e
+
+  module _ {More : ℕ → ℕ → Type 0} {list p low n : ℕ} (g : inRange 160 179 low ≡ true) (r : From list p low) (l : Later (low + 1) More) where
+    pub optional-text : (x : Optional s low (TextElement s) More p n) → optionalText s (fieldIn s list low) ≡ textGiven (x .first)
+    optional-text = optional-is text-whole g r l (optionalText s) (λ q m. textGiven m) (λ q c. ap T.Text (text-held (c .one))) (λ q e. refl)
+
+    pub optional-integer : (x : Optional s low (IntegerElement s) More p n) → optionalInteger s (fieldIn s list low) ≡ integerGiven (x .first)
+    optional-integer =
+        optional-is integer-whole g r l (optionalInteger s) (λ q m. integerGiven m) (λ q c. ap I.Integer (integer-held (c .one))) (λ q e. refl)

@@ -9,6 +9,35 @@ pub enum NameAnswer {
     Refused(Refusal),
 }
 
+// The twenty names in source 001's order.
+const NAMES: [u8; 124] =
+    *b"local gibbsq gibbmt giim genbank embl pir swissprot patent other general gi ddbj prf pdb tpg tpe tpd gpipe named-annot-track";
+
+// Where each name starts in them; each but the last has a space behind it.
+const STARTS: [u8; 21] = [
+    0,
+    6,
+    13,
+    20,
+    25,
+    33,
+    38,
+    42,
+    52,
+    59,
+    65,
+    73,
+    76,
+    81,
+    85,
+    89,
+    93,
+    97,
+    101,
+    107,
+    125,
+];
+
 // Writes a name into a range.
 fn put_name(name: &[u8], out: &mut [u8]) -> NameAnswer
     ensures { λ r. ⌜ r ≡ putAnswer (now (name .entry)) (now (out .entry)) ⌝ }
@@ -30,27 +59,14 @@ pub fn kind_name(kind: u32, out: &mut [u8]) -> NameAnswer
     ensures { λ r. ⌜ r ≡ nameAnswer kind (now (out .entry)) ⌝ }
     ensures { λ r. ⌜ now (out .exit) ≡ nameOutput kind (now (out .entry)) ⌝ }
 {
-    match kind {
-        160 => put_name(b"local", out),
-        161 => put_name(b"gibbsq", out),
-        162 => put_name(b"gibbmt", out),
-        163 => put_name(b"giim", out),
-        164 => put_name(b"genbank", out),
-        165 => put_name(b"embl", out),
-        166 => put_name(b"pir", out),
-        167 => put_name(b"swissprot", out),
-        168 => put_name(b"patent", out),
-        169 => put_name(b"other", out),
-        170 => put_name(b"general", out),
-        171 => put_name(b"gi", out),
-        172 => put_name(b"ddbj", out),
-        173 => put_name(b"prf", out),
-        174 => put_name(b"pdb", out),
-        175 => put_name(b"tpg", out),
-        176 => put_name(b"tpe", out),
-        177 => put_name(b"tpd", out),
-        178 => put_name(b"gpipe", out),
-        179 => put_name(b"named-annot-track", out),
-        _ => NameAnswer::Refused(Refusal::OutOfRange),
+    if kind < 160 {
+        return NameAnswer::Refused(Refusal::OutOfRange);
     }
+    if 179 < kind {
+        return NameAnswer::Refused(Refusal::OutOfRange);
+    }
+    let k = (kind - 160) as usize;
+    let start = STARTS[k] as usize;
+    let end = STARTS[k + 1] as usize - 1;
+    put_name(&NAMES[start..end], out)
 }
