@@ -24,6 +24,12 @@ pub fn read_record(file: &[u8], start: usize, end: usize) -> Answer<Element> {
     Ok(element)
 }
 
+/// Of two bytes or more. The first bit is the highest of the first byte.
+fn first_nine_bits_are_equal(bytes: &[u8]) -> bool {
+    let bit = |place: usize| bytes[place / 8] >> (7 - place % 8) & 1;
+    (0..9).all(|place| bit(place) == bit(0))
+}
+
 /// The file up to the record's end, and how far it is read.
 struct Reader<'a> {
     file: &'a [u8],
@@ -46,12 +52,15 @@ impl Reader<'_> {
         }
     }
 
-    /// "02, a length 1 to 8, a two's complement integer".
+    /// "02, a length 1 to 8, a two's complement integer"; and "An integer whose first nine bits are all equal, when it has
+    /// more than one byte, is refused" (request 2026-06).
     fn integer(&mut self) -> Answer<Element> {
         let length = self.byte()? as i128;
         ask((1..=8).contains(&length), BAD_RECORD)?;
         let part = self.take(length)?;
-        Ok(Element::Integer(big_signed(self.bytes(part))))
+        let bytes = self.bytes(part);
+        ask(length == 1 || !first_nine_bits_are_equal(bytes), BAD_RECORD)?;
+        Ok(Element::Integer(big_signed(bytes)))
     }
 
     /// "1A, a length (below 128 in one byte, or 81 to 84 and that many bytes), text".

@@ -1,5 +1,5 @@
-//! Document 01's table for the desk and its listing's example, as calls with the answers that the document gives, written
-//! out by hand. The rows that it calls "Run only" are among them.
+//! Document 01's table for the desk, its listing's example and the cases of request 2026-06, as calls with the answers that
+//! the documents give, written out by hand. The rows that document 01 calls "Run only" are among them.
 
 use crate::call::{Argument::*, Call, *};
 use crate::generate::Case;
@@ -118,6 +118,9 @@ fn integers() -> Vec<WorkedRow> {
     vec![
         row("T: 02 01 FF is -1", gi("0201FF"), "0 171 -1"),
         row("T: 02 02 00 80 is 128", gi("02020080"), "0 171 128"),
+        row("2026-06: 02 02 00 05 goes", gi("02020005"), "20"),
+        row("2026-06: 02 02 00 80 stays 128", gi("02020080"), "0 171 128"),
+        row("2026-06: 02 01 00 stays 0", gi("020100"), "0 171 0"),
     ]
 }
 

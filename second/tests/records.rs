@@ -27,6 +27,51 @@ fn integers_of_the_table_for_the_desk() {
 }
 
 #[test]
+fn padded_integers_are_refused() {
+    for (hex, value) in [("02 02 00 80", 128), ("02 01 00", 0), ("02 02 FF 7F", -129)] {
+        assert_eq!(read(hex), Ok(Element::Integer(value)), "{hex}");
+    }
+    for hex in ["02 02 00 05", "02 02 FF 80", "02 02 00 00", "02 03 00 00 80", "02 08 00 7F FFFFFFFFFFFF"] {
+        assert_eq!(read(hex), Err(BAD_RECORD), "{hex}");
+    }
+    // Of two bytes exactly those are left that write a number which one byte cannot.
+    for value in i16::MIN..=i16::MAX {
+        let two = [&[0x02, 0x02], &value.to_be_bytes()[..]].concat();
+        let wanted =
+            if i8::try_from(value).is_ok() { Err(BAD_RECORD) } else { Ok(Element::Integer(value as i128)) };
+        assert_eq!(read_record(&two, 0, 4), wanted, "{value}");
+    }
+}
+
+#[test]
+fn a_number_has_one_integer_of_those_that_write_it() {
+    for length in 1..=8usize {
+        let beyond = 1i128 << (8 * length - 1);
+        for value in [0, 1, beyond - 1, -1, -beyond, beyond / 2, -beyond / 2 - 1] {
+            let forms: Vec<Vec<u8>> = (1..=8usize)
+                .filter(|bytes| (-(1i128 << (8 * bytes - 1))..1 << (8 * bytes - 1)).contains(&value))
+                .map(|bytes| [&[0x02, bytes as u8], &value.to_be_bytes()[16 - bytes..]].concat())
+                .collect();
+            let read: Vec<_> = forms.iter().map(|form| read_record(form, 0, form.len())).collect();
+            assert_eq!(read[0], Ok(Element::Integer(value)), "{value}");
+            assert!(read[1..].iter().all(|answer| *answer == Err(BAD_RECORD)), "{value}");
+        }
+    }
+}
+
+#[test]
+fn a_padded_integer_is_met_in_the_nesting_pass() {
+    let deep = format!("{}02{}", "A580".repeat(15), "0000".repeat(15));
+    assert_eq!(read(&format!("3080 02020005 {deep} 0000")), Err(BAD_RECORD));
+    assert_eq!(read(&format!("3080 {deep} 02020005 0000")), Err(TOO_DEEP));
+    assert_eq!(read(&nested(15, "02020005")), Err(BAD_RECORD));
+    assert_eq!(read(&nested(16, "02020005")), Err(TOO_DEEP));
+    // A length in the long form is no integer, and a byte in a text is none.
+    assert_eq!(read("1A 84 00 00 00 02 00 05"), Ok(Element::Text(Part { start: 6, length: 2 })));
+    assert_eq!(read("1A 04 02 02 00 05"), Ok(Element::Text(Part { start: 2, length: 4 })));
+}
+
+#[test]
 fn depth_16_passes_and_17_is_21() {
     assert!(read(&nested(16, "")).is_ok());
     assert!(read(&nested(15, "020101")).is_ok());

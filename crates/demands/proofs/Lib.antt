@@ -13,3 +13,4 @@ pub mod Refusals
 pub mod Pages
 pub mod Nucleotides
 pub mod Identifiers
+pub mod Integers

@@ -1,4 +1,5 @@
--- The depth of a record, computed. The marked cases of document 01's table are in crate demands. Assumes nothing.
+-- The depth of a record, and padded integers before and behind it, computed. The marked cases of document 01's table are in crate demands. Assumes
+-- nothing.
 use mathlib.Core.Path.{_≡_, refl}
 use mathlib.Core.List.{List, [], _∷_, _++_}
 use Prim.Native.Nat.{ℕ, zero, suc}
@@ -28,3 +29,16 @@ seventeen = refl
 pub wrong-byte : read 16 F.Any (nested 16 (5 ∷ [])) 0 ≡ Refused BadHeader
 unfolding read startOf listEnd integerPart integerAllowed textPart longPart partAt value opens closes tooDeep
 wrong-byte = refl
+
+-- a padded integer is 20 where it stands left of an element at depth 17; right of one it is not met, and at depth 17 its first byte is 21
+pub padded-left : read 16 F.Any (48 ∷ 128 ∷ 2 ∷ 2 ∷ 0 ∷ 5 ∷ nested 15 (2 ∷ [])) 0 ≡ Refused BadHeader
+unfolding read startOf listEnd integerPart integerAllowed textPart longPart partAt value opens closes tooDeep
+padded-left = refl
+
+pub padded-right : read 16 F.Any (48 ∷ 128 ∷ nested 15 (2 ∷ []) ++ (2 ∷ 2 ∷ 0 ∷ 5 ∷ 0 ∷ 0 ∷ [])) 0 ≡ Refused TooDeep
+unfolding read startOf listEnd integerPart integerAllowed textPart longPart partAt value opens closes tooDeep
+padded-right = refl
+
+pub padded-deep : read 16 F.Any (nested 16 (2 ∷ 2 ∷ 0 ∷ 5 ∷ [])) 0 ≡ Refused TooDeep
+unfolding read startOf listEnd integerPart integerAllowed textPart longPart partAt value opens closes tooDeep
+padded-deep = refl

@@ -1,3 +1,4 @@
+pub mod Padded
 pub mod Parts
 pub mod Forms
 pub mod Reading
@@ -8,5 +9,6 @@ pub mod Records
 pub mod Shape
 pub mod Nesting
 pub mod Written
+pub mod Shortest
 pub mod Refusals
 pub mod Examples

@@ -1,21 +1,21 @@
 -- Integers, texts and their bytes: where they lie, and what number they are. Assumes nothing.
-use mathlib.Core.Path.{_≡_, refl, sym, subst, ap, _∙_}
+use mathlib.Core.Path.{_≡_, refl, sym, subst, ap, ap₂, _∙_}
 use mathlib.Core.List.{List}
-use mathlib.Core.Bool.{Bool, true, false, cond, _&&_}
+use mathlib.Core.Bool.{Bool, true, false, cond, not, _&&_}
 use Prim.Native.Nat.{ℕ, zero, suc, _+_, _-_, _*_, _/_, _^_, _≤_, _<_}
 use lib.Pow.{pow-add}
-use native.Mathlib.Nat.{mul-suc, pow-suc, pow-le-pow-right, lt-of-lt-of-le}
+use native.Mathlib.Nat.{add-zero, mul-suc, pow-suc, pow-le-pow-right, lt-of-lt-of-le}
 use native.Mathlib.Omega.{arith}
 use native.Mathlib.Numerals.{add-one}
 use borrow.Author.Tests.{lt-ltb, le-ltb, le-leb, lt-leb, eq-eqb, ne-eqb, ltb-true, ltb-false, leb-true}
 use lib.ListN.{length, getD, drop, length-drop, List·getD-eq-default}
-use lib.Seq.{length-take-le}
-use lib.Dec.{ltb, leb}
+use lib.Seq.{getD-take, getD-drop, length-take-le}
+use lib.Dec.{ltb, leb, eqb}
 use mir.Syntax.{w64}
 use mir.Val.{toZ}
 use mir.ValLaws.{toZ-pos, toZ-neg}
 use Rattle.laws.specs.Digits.{value, allBelow}
-use Rattle.laws.proofs.Tests.{both-pass, bool-cases}
+use Rattle.laws.proofs.Tests.{never, both-pass, bool-cases}
 use Rattle.laws.proofs.Digits.{below-all, below-take, below-drop, value-below}
 use Rattle.laws.proofs.Choices.{cond-elim}
 use Rattle.fields.specs.Number.{signed}
@@ -25,11 +25,33 @@ use Rattle.elements.specs.declared.SpanAnswer.{SpanAnswer}
 use Rattle.elements.specs.declared.SpanAnswer.the-variants as S
 use Rattle.elements.specs.declared.IntegerAnswer.the-variants as I
 use Rattle.elements.specs.Grammar.{inRange}
-use Rattle.elements.specs.Parts.{span, bytesOf, partAt, integerAllowed, integerPart, longPart, textPart, Within, integerOf, integerIn, integerAt, textAt}
+use Rattle.elements.specs.Parts.{span, bytesOf, partAt, isPadded, integerAllowed, integerPart, longPart, textPart, Within, integerOf, integerIn, integerAt, textAt}
 use Rattle.elements.specs.Statement.{IntegerBytes}
+use Rattle.elements.proofs.Padded.{padded-bytes, bytes-padded, allOrNone, padded-nine}
 
 pub bytes-length : (s : List ℕ) (at n : ℕ) → at + n ≤ length s → length (bytesOf s at n) ≡ n
 bytes-length s at n h = length-take-le n (drop at s) (rw length-drop (omega arith))
+
+-- ---- padded integers
+
+pub padded-few : (s : List ℕ) (at n : ℕ) → at + n ≤ length s → n ≤ 1 → false ≡ isPadded (bytesOf s at n)
+padded-few s at n h l = rw (bytes-length s at n h, le-ltb _ _ l)
+
+-- the first nine bits of more than one byte, as the code reads them
+module _ (s : List ℕ) (at n : ℕ) (fits : at + n ≤ length s) (more : 1 < n) (small : (i : ℕ) → getD s i 0 < 256) where
+  padded-read : isPadded (bytesOf s at n) ≡ allOrNone (getD s at 0 * 2 + getD s (at + 1) 0 / 128)
+  padded-read =
+      let byte : (k : ℕ) → k < n → getD (bytesOf s at n) k 0 ≡ getD s (at + k) 0 = λ k l. getD-take n (drop at s) k 0 l ∙ getD-drop at s k 0 in
+      let first : getD (bytesOf s at n) 0 0 ≡ getD s at 0 = byte 0 (omega arith) ∙ ap (λ (k : ℕ). getD s k 0) (add-zero at) in
+      let second : getD (bytesOf s at n) 1 0 ≡ getD s (at + 1) 0 = byte 1 more in
+      padded-nine (bytesOf s at n) (rw first (small at)) (rw second (small (at + 1))) ∙ rw (bytes-length s at n fits, lt-ltb _ _ more, first, second)
+
+  pub padded-none : getD s at 0 * 2 + getD s (at + 1) 0 / 128 ≡ 0 → true ≡ isPadded (bytesOf s at n)
+  padded-none e = rw (padded-read, eq-eqb _ _ e)
+
+  pub padded-some : (getD s at 0 * 2 + getD s (at + 1) 0 / 128 ≡ 0 → ⊥)
+      → eqb (getD s at 0 * 2 + getD s (at + 1) 0 / 128) 511 ≡ isPadded (bytesOf s at n)
+  padded-some e = rw (padded-read, ne-eqb _ _ e)
 
 -- ---- allowed integers
 
@@ -38,22 +60,32 @@ module _ (bytes : List ℕ) (n : ℕ) (e : length bytes ≡ n) where
   unfolding integerAllowed
   allowed-none h = rw (e, lt-leb _ _ h)
 
-  pub allowed-some : 1 ≤ n → leb n 8 ≡ integerAllowed bytes
+  pub allowed-many : 8 < n → false ≡ integerAllowed bytes
   unfolding integerAllowed
-  allowed-some h = rw (e, le-leb _ _ h)
+  allowed-many h = let l : 1 ≤ n = omega arith in rw (e, le-leb _ _ l, lt-leb _ _ h)
 
-pub allowed-size : (bytes : List ℕ) → integerAllowed bytes ≡ true → (1 ≤ length bytes) × (length bytes ≤ 8)
-unfolding integerAllowed
-allowed-size bytes e =
-    let p = both-pass (leb 1 (length bytes)) (leb (length bytes) 8) e in
-    (leb-true 1 (length bytes) (p .0), leb-true (length bytes) 8 (p .1))
+  pub allowed-some : (padded : Bool) → 1 ≤ n → n ≤ 8 → padded ≡ isPadded bytes → not padded ≡ integerAllowed bytes
+  unfolding integerAllowed
+  allowed-some padded h l p =
+      let a : leb 1 (length bytes) ≡ true = rw e (le-leb _ _ h) in
+      let b : leb (length bytes) 8 ≡ true = rw e (le-leb _ _ l) in
+      ap not p ∙ sym (ap₂ (λ x y. x && y && not (isPadded bytes)) a b)
 
 pub allowed-bytes : (bytes : List ℕ) → integerAllowed bytes ≡ true → IntegerBytes bytes
-allowed-bytes bytes e = let p = allowed-size bytes e in record { some = p .0; few = p .1 }
+unfolding integerAllowed
+allowed-bytes bytes e =
+    let p = both-pass (leb 1 (length bytes) && leb (length bytes) 8) (not (isPadded bytes)) e in
+    let q = both-pass (leb 1 (length bytes)) (leb (length bytes) 8) (p .0) in
+    record {
+      some = leb-true 1 (length bytes) (q .0);
+      few = leb-true (length bytes) 8 (q .1);
+      unpadded = λ b. never (sym (ap not (bytes-padded bytes b)) ∙ p .1);
+    }
 
 pub bytes-allowed : (bytes : List ℕ) → IntegerBytes bytes → integerAllowed bytes ≡ true
-unfolding integerAllowed
-bytes-allowed bytes b = rw (le-leb _ _ (b .some), le-leb _ _ (b .few))
+bytes-allowed bytes b =
+    bool-cases (isPadded bytes) (λ e. absurd (b .unpadded (padded-bytes bytes e)))
+    (λ e. sym (allowed-some bytes (length bytes) refl false (b .some) (b .few) (sym e)))
 
 -- ---- where the bytes lie: past `lo`, and within s
 
@@ -89,8 +121,8 @@ integer-reads s at =
     let q = both-pass (ltb at (length s)) (leb (at + 1 + n) (length s)) (p .0) in
     let f : at + 1 + n ≤ length s = leb-true _ _ (q .1) in
     let l : length (bytesOf s (at + 1) n) ≡ n = bytes-length s (at + 1) n f in
-    let a = allowed-size (bytesOf s (at + 1) n) (p .1) in
-    record { there = ltb-true _ _ (q .0); starts = refl; sized = refl; some = rw l at (a .0); few = rw l at (a .1); fits = f; allowed = p .1 })
+    let a = allowed-bytes (bytesOf s (at + 1) n) (p .1) in
+    record { there = ltb-true _ _ (q .0); starts = refl; sized = refl; some = rw l at (a .some); few = rw l at (a .few); fits = f; allowed = p .1 })
     (λ e. tt)
 
 pub integer-read : (s : List ℕ) (at : ℕ) (t : Span) → integerPart s at ≡ S.Part t → IntegerRead s at t
@@ -153,7 +185,7 @@ pub record Counted (s : List ℕ) (at n x most : ℕ) : Type 0 where
   pub is : x ≡ value 8 0 (bytesOf s at n)
   pub top : most + 1 ≡ 256 ^ n
 
-byte-power : (n : ℕ) → 2 ^ (8 * n) ≡ 256 ^ n
+pub byte-power : (n : ℕ) → 2 ^ (8 * n) ≡ 256 ^ n
 byte-power zero = refl
 byte-power (suc n) =
     let e : 8 * suc n ≡ 8 * n + 8 = mul-suc 8 n in

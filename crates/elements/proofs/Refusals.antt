@@ -8,6 +8,7 @@ use Prim.Native.Nat.{ℕ, zero, suc, _+_, _-_, _<_}
 use native.Mathlib.Omega.{arith}
 use borrow.Author.Tests.{lt-ltb, le-leb, ne-eqb, ltb-true, ltb-false, eqb-true}
 use lib.ListN.{length, getD, List·getD-eq-default}
+use lib.IntN.{ℤ}
 use lib.Dec.{ltb, leb, eqb}
 use Rattle.laws.proofs.Tests.{never, bool-cases, both-pass, cond-passed}
 use Rattle.laws.proofs.Choices.{cond-elim}
@@ -282,6 +283,25 @@ module _ (depth : ℕ) (s : List ℕ) (at : ℕ) where
 module _ (s : List ℕ) (at : ℕ) where
   integer-there : (t : Span) → Byte s at 2 → integerPart s (at + 1) ≡ S.Part t → IntegerElement s at (t .start + t .len)
   integer-there t y e = integer-reads 0 s .sound at (t .start + t .len) (began-read 0 F.Integer s at (t .start + t .len) (G.integer refl y (ap endOf e)))
+
+  -- an integer that is read is one of the plain statement, and its number is what that writes
+  pub integer-found : (z : ℤ) → integerAt s at ≡ I.Integer z → (n : ℕ) × (i : IntegerElement s at n) × (integerWritten i ≡ z)
+  unfolding integerAt
+  integer-found z e =
+      let p = cond-passed (eqb (getD s at 0) 2) refused e in
+      found (byte-there s at 2 (eqb-true (getD s at 0) 2 (p .0)) (omega arith)) (integerPart s (at + 1)) refl (p .1)
+    where
+      refused : {r : Refusal} → I.Refused r ≡ I.Integer z → ⊥
+      refused q = let w : _≡_ {A = ℕ} 0 1 = cc in omega arith
+
+      found : Byte s at 2 → (x : SpanAnswer) → integerPart s (at + 1) ≡ x → integerIn s x ≡ I.Integer z
+          → (n : ℕ) × (i : IntegerElement s at n) × (integerWritten i ≡ z)
+      found y (S.Part t) f q =
+          let i = integer-there t y f in
+          let w : I.Integer (integerWritten i) ≡ I.Integer z = sym (integer-written i) ∙ e in
+          let v : integerWritten i ≡ z = cc in
+          (t .start + t .len, i, v)
+      found y (S.Refused r) f q = absurd (refused q)
 
   text-there : (t : Span) → Byte s at 26 → textPart s (at + 1) ≡ S.Part t → TextElement s at (t .start + t .len)
   text-there t y e = text-reads 0 s .sound at (t .start + t .len) (began-read 0 F.Text s at (t .start + t .len) (G.text refl y (ap endOf e)))

@@ -6,3 +6,4 @@ pub mod Statement
 pub mod Deep
 pub mod DefLines
 pub mod Written
+pub mod Shortest

@@ -2,11 +2,12 @@
 -- Assumes nothing.
 use Prim.Native.Nat.{ℕ, _+_, _-_, _≤_}
 use mathlib.Core.List.{List}
-use mathlib.Core.Bool.{Bool, cond, _&&_}
+use mathlib.Core.Bool.{Bool, cond, not, _&&_}
 use lib.ListN.{length, getD, take, drop}
 use lib.Dec.{ltb, leb, eqb}
 use lib.IntN.{ℤ}
 use Rattle.laws.specs.Digits.{value}
+use Rattle.laws.specs.Places.{every}
 use Rattle.fields.specs.Number.{signed}
 use Rattle.answers.specs.declared.Refusal.the-variants.{BadHeader}
 use Rattle.elements.specs.declared.Span.{Span}
@@ -15,6 +16,7 @@ use Rattle.elements.specs.declared.SpanAnswer.the-variants as S
 use Rattle.elements.specs.declared.IntegerAnswer.{IntegerAnswer}
 use Rattle.elements.specs.declared.IntegerAnswer.the-variants as I
 use Rattle.elements.specs.Grammar.{inRange}
+use Rattle.elements.specs.Statement.{bitAt}
 
 -- The part of n bytes that starts at a place.
 abbrev pub span : ℕ → ℕ → Span
@@ -28,11 +30,15 @@ bytesOf s at n = take n (drop at s)
 unfoldable pub partAt : List ℕ → ℕ → ℕ → SpanAnswer
 partAt s at n = cond (leb (at + n) (length s)) (S.Part (span at n)) (S.Refused BadHeader)
 
--- Which integers are allowed, by their bytes: those of 1 to 8 bytes.
-unfoldable pub integerAllowed : List ℕ → Bool
-integerAllowed bytes = leb 1 (length bytes) && leb (length bytes) 8
+-- A padded integer has more than one byte, and its first nine bits are all equal (request 2026-06).
+abbrev pub isPadded : List ℕ → Bool
+isPadded bytes = ltb 1 (length bytes) && every (λ i. eqb (bitAt bytes i) (bitAt bytes 0)) 9
 
--- The bytes of an integer whose length stands at a place: a length 1 to 8 in one byte, and so many bytes.
+-- Which integers are allowed, by their bytes: those of 1 to 8 bytes that are not padded.
+unfoldable pub integerAllowed : List ℕ → Bool
+integerAllowed bytes = leb 1 (length bytes) && leb (length bytes) 8 && not (isPadded bytes)
+
+-- The bytes of an integer whose length stands at a place: a length in one byte, and so many bytes of an allowed integer.
 unfoldable pub integerPart : List ℕ → ℕ → SpanAnswer
 integerPart s at =
     cond (ltb at (length s) && leb (at + 1 + getD s at 0) (length s) && integerAllowed (bytesOf s (at + 1) (getD s at 0)))

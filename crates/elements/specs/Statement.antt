@@ -2,7 +2,7 @@
 -- Assumes nothing.
 use mathlib.Core.Path.{_≡_}
 use mathlib.Core.List.{List}
-use Prim.Native.Nat.{ℕ, zero, suc, _+_, _≤_, _<_}
+use Prim.Native.Nat.{ℕ, zero, suc, _+_, _-_, _/_, _%_, _^_, _≤_, _<_}
 use lib.ListN.{length, getD, take, drop}
 use Rattle.laws.specs.Digits.{value}
 
@@ -16,10 +16,20 @@ pub record Close (s : List ℕ) (at : ℕ) : Type 0 where
   pub first : Byte s at 0
   pub second : Byte s (at + 1) 0
 
--- Which integers are allowed, by their bytes: those of 1 to 8 bytes.
+-- Bit i of some bytes, counted from the highest bit of the first byte.
+abbrev pub bitAt : List ℕ → ℕ → ℕ
+bitAt bytes i = getD bytes (i / 8) 0 / 2 ^ (7 - i % 8) % 2
+
+-- A padded integer: it has more than one byte, and its first nine bits are all equal (request 2026-06).
+pub record Padded (bytes : List ℕ) : Type 0 where
+  pub more : 1 < length bytes
+  pub equal : (i : ℕ) → i < 9 → bitAt bytes i ≡ bitAt bytes 0
+
+-- Which integers are allowed, by their bytes: those of 1 to 8 bytes that are not padded.
 pub record IntegerBytes (bytes : List ℕ) : Type 0 where
   pub some : 1 ≤ length bytes
   pub few : length bytes ≤ 8
+  pub unpadded : Padded bytes → ⊥
 
 -- An integer: 02, a length in one byte, and so many bytes of an allowed integer.
 pub record IntegerElement (s : List ℕ) (at n : ℕ) : Type 0 where

@@ -11,7 +11,7 @@ ghost use mathlib.Core.Path.{_≡_};
 ghost use Prim.Native.Nat.{_+_, _^_, _≤_};
 ghost use lib.ListN.{length};
 ghost use Rattle.laws.specs.Digits.{value};
-ghost use Rattle.elements.specs.Parts.{bytesOf, partAt, integerAllowed, integerPart, longPart, textPart, Within, integerOf, integerAt, textAt};
+ghost use Rattle.elements.specs.Parts.{bytesOf, partAt, isPadded, integerAllowed, integerPart, longPart, textPart, Within, integerOf, integerAt, textAt};
 ghost use Rattle.elements.specs.Reading.{opens, closes, begins, tooDeep, endOf, startOf, closedAt, read};
 
 // The records of source 001, which have fields.
@@ -85,6 +85,23 @@ fn part_at(s: &[u8], at: usize, n: usize) -> SpanAnswer
     SpanAnswer::Part(Span { start: at, len: n })
 }
 
+// Whether the n bytes at a place are a padded integer: the first nine bits of more than one byte are all 0 or all 1.
+fn is_padded(s: &[u8], at: usize, n: usize) -> bool
+    requires { ⌜ at + n ≤ length (now s) ⌝ }
+    ensures { λ r. ⌜ r ≡ isPadded (bytesOf (now (s .entry)) at n) ⌝ }
+{
+    if n <= 1 {
+        return false;
+    }
+    let first = s[at] as u32;
+    let second = s[at + 1] as u32;
+    let nine = first * 2 + second / 128;
+    if nine == 0 {
+        return true;
+    }
+    nine == 511
+}
+
 // Whether the n bytes at a place are an integer's.
 fn integer_allowed(s: &[u8], at: usize, n: usize) -> bool
     requires { ⌜ at + n ≤ length (now s) ⌝ }
@@ -93,7 +110,10 @@ fn integer_allowed(s: &[u8], at: usize, n: usize) -> bool
     if n < 1 {
         return false;
     }
-    n <= 8
+    if 8 < n {
+        return false;
+    }
+    !is_padded(s, at, n)
 }
 
 // The bytes of an integer whose length stands at a place.

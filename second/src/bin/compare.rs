@@ -1,5 +1,6 @@
 //! `compare CASES_PROGRAM [--calls 3,4,11,12 | --calls present] [--seed N] [--count N] [--samples DIR]`: makes cases for
-//! each listed call, lets the program answer them, and holds its lines against our own and against document 01's table.
+//! each listed call, lets the program answer them, and holds its lines against our own and against the cases that the
+//! documents print.
 
 use second::call::signature;
 use second::comparison::{compare, knows};
@@ -64,7 +65,7 @@ fn worked_rows(program: &Path, calls: &[u8]) -> Result<usize, String> {
         }
     }
     println!(
-        "document 01's table: {} of {} rows have the answers it gives",
+        "the cases that the documents print: {} of {} have the answers given there",
         asked.len() - wrong,
         asked.len()
     );

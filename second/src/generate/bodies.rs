@@ -1,7 +1,8 @@
 //! Elements of a definition of 001: by chance, with every field, all that must pass, and all that must not.
 
 use super::definitions::{tag_at, Field, Form};
-use super::nodes::{choice, integer, short_text, text, Node};
+use super::nodes::{choice, edges, integer, short_text, shortest, text, Node};
+use super::padded::padded_integers;
 use super::rng::Rng;
 
 /// An element with words for what it shows.
@@ -41,18 +42,27 @@ pub fn right(form: Form, rng: &mut Rng) -> Vec<Shown> {
     match form {
         Form::Integer => integers(rng),
         Form::Text => texts(rng),
-        Form::Choice(alternatives) => {
-            in_each(alternatives, right, rng, |place, inside, _| choice(tag_at(place), inside))
-        }
+        Form::Choice(_) => in_places(form, right, rng),
         Form::Sequence(fields) => {
             let mut all = sets_of(fields, rng);
-            all.extend(in_each(fields, right, rng, |place, inside, rng| {
-                let mut nodes = all_of(fields, rng);
-                nodes[place] = choice(tag_at(place), inside);
-                Node::List(nodes)
-            }));
+            all.extend(in_places(form, right, rng));
             all
         }
+    }
+}
+
+/// The elements of every alternative, or of every field among all the others.
+fn in_places(form: Form, elements: fn(Form, &mut Rng) -> Vec<Shown>, rng: &mut Rng) -> Vec<Shown> {
+    match form {
+        Form::Integer | Form::Text => vec![],
+        Form::Choice(alternatives) => {
+            in_each(alternatives, elements, rng, |place, inside, _| choice(tag_at(place), inside))
+        }
+        Form::Sequence(fields) => in_each(fields, elements, rng, |place, inside, rng| {
+            let mut nodes = all_of(fields, rng);
+            nodes[place] = choice(tag_at(place), inside);
+            Node::List(nodes)
+        }),
     }
 }
 
@@ -72,17 +82,10 @@ fn in_each(
     all
 }
 
-/// Integers of 1 to 8 bytes: the smallest, the largest, and one by chance.
+/// Integers of 1 to 8 bytes: the numbers at the edges of those that need so many, and some by chance.
 fn integers(rng: &mut Rng) -> Vec<Shown> {
-    let mut all = Vec::new();
-    for length in 1..=8 {
-        let smallest = [&[0x80], &vec![0; length - 1][..]].concat();
-        let largest = [&[0x7F], &vec![0xFF; length - 1][..]].concat();
-        for value in [smallest, largest, rng.bytes(length)] {
-            all.push((format!("{value:02X?}"), Node::Integer(value)));
-        }
-    }
-    all
+    let values = (1..=8).flat_map(edges).map(shortest).chain((0..8).map(|_| integer(rng)));
+    values.map(|node| (format!("{:02X?}", node.bytes()), node)).collect()
 }
 
 /// Texts of 0, 1, 127 and 128 bytes, their lengths in the short form and in each long one.
@@ -119,20 +122,24 @@ pub fn wrong(form: Form, rng: &mut Rng) -> Vec<Shown> {
         Form::Text => not_a_text(rng),
         Form::Choice(alternatives) => {
             let mut all = wrong_choices(alternatives, rng);
-            all.extend(in_each(alternatives, wrong, rng, |place, inside, _| choice(tag_at(place), inside)));
+            all.extend(in_places(form, wrong, rng));
             all
         }
         Form::Sequence(fields) => {
             let mut all = not_a_sequence(fields, rng);
             all.extend(wrong_fields(fields, rng));
             all.extend(foreign_fields(fields, rng));
-            all.extend(in_each(fields, wrong, rng, |place, inside, rng| {
-                let mut nodes = all_of(fields, rng);
-                nodes[place] = choice(tag_at(place), inside);
-                Node::List(nodes)
-            }));
+            all.extend(in_places(form, wrong, rng));
             all
         }
+    }
+}
+
+/// Elements with one padded integer and nothing else that is wrong: in each place of the definition that has an integer.
+pub fn padded(form: Form, rng: &mut Rng) -> Vec<Shown> {
+    match form {
+        Form::Integer => padded_integers(rng),
+        _ => in_places(form, padded, rng),
     }
 }
 

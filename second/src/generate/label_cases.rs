@@ -3,6 +3,7 @@
 use super::identifier_cases::{self, Placed};
 use super::nodes::{self, Node};
 use super::order::Order;
+use super::padded;
 use super::record_faults::{malformed_lines, wrong_shapes};
 use super::record_rules::{self, Parts, ARRANGEMENTS};
 use super::rng::Rng;
@@ -171,12 +172,14 @@ fn wrong_ones(rng: &mut Rng) -> Vec<Case> {
     cases
 }
 
-/// Records with identifiers of every kind, right and wrong.
+/// Records with identifiers of every kind, right and wrong, and with padded integers in every place.
 fn bodies(rng: &mut Rng) -> Vec<Case> {
     let right = identifier_cases::right_ones(rng).into_iter().map(|placed| (placed, 0));
     let wrong = identifier_cases::wrong_ones(rng).into_iter().map(|placed| (placed, BAD_RECORD));
+    let placed = right.chain(wrong).map(|(Placed { words, lines, .. }, aim)| (words, lines, aim));
+    let padded = padded::records(rng).into_iter().map(|record| (record.words, record.lines, record.aim));
     let mut cases = Vec::new();
-    for (Placed { words, lines, .. }, aim) in right.chain(wrong) {
+    for (words, lines, aim) in placed.chain(padded) {
         let mut plan = Plan::by_chance(rng.below(2) as i128, 2, rng);
         let chosen = plan.chosen;
         plan.records[chosen] = Parts::new(lines);

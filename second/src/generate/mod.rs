@@ -21,6 +21,7 @@ pub mod nucleotide_codes;
 pub mod nucleotide_rules;
 pub mod order;
 pub mod pack_cases;
+pub mod padded;
 pub mod page_cases;
 pub mod page_lists;
 pub mod page_rules;

@@ -3,7 +3,7 @@
 use super::bodies::by_chance;
 use super::definitions::IDENTIFIER;
 use super::rng::Rng;
-use crate::fields::big_bytes;
+use crate::fields::{big_bytes, big_signed};
 
 /// An element to be written. A text's form is how many bytes its length takes behind 81 to 84, or 0 for the short
 /// form; a choice may hold none or several; raw bytes are whatever they are.
@@ -41,14 +41,24 @@ pub fn choice(tag: u8, inside: Node) -> Node {
     Node::Choice(tag, vec![inside])
 }
 
-/// An integer of one to eight bytes, shortest form or not.
+/// The numbers at the edges of those that need this many bytes: the least and the greatest that are not negative, and
+/// the same of those that are.
+pub fn edges(length: usize) -> [i128; 4] {
+    let beyond = |length: usize| 1i128 << (8 * length - 1);
+    let less = if length == 1 { 0 } else { beyond(length - 1) };
+    [less, beyond(length) - 1, -less - 1, -beyond(length)]
+}
+
+/// A number as an integer in the shortest form: of so few bytes that it is still in the range of their numbers.
+pub fn shortest(value: i128) -> Node {
+    let length = (1..=8).find(|length| edges(*length)[3] <= value && value <= edges(*length)[1]).unwrap();
+    Node::Integer(big_bytes(value, length))
+}
+
+/// An integer of one to eight bytes in the shortest form.
 pub fn integer(rng: &mut Rng) -> Node {
     let length = rng.between(1, 8);
-    let mut value = rng.bytes(length);
-    if rng.chance(30) {
-        value[0] = *rng.pick(&[0, 255, 128, 127]);
-    }
-    Node::Integer(value)
+    shortest(if rng.chance(30) { *rng.pick(&edges(length)) } else { big_signed(&rng.bytes(length)) })
 }
 
 /// A text, mostly short, in a form that has room for its length.

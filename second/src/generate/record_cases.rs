@@ -3,6 +3,7 @@
 use super::identifier_cases::{right_ones, wrong_ones, Placed};
 use super::nodes::{self, Node};
 use super::order::Order;
+use super::padded;
 use super::record_faults::*;
 use super::record_rules::{self, Parts, ARRANGEMENTS};
 use super::rng::Rng;
@@ -138,6 +139,7 @@ pub fn planned(byte: u8, rng: &mut Rng, samples: &Samples) -> Vec<Case> {
     cases.extend(whole_records(byte, rng));
     cases.extend(every_fault(byte, rng));
     cases.extend(bodies(byte, rng));
+    cases.extend(padded(byte, rng));
     cases.extend(cuts(byte, rng));
     cases.extend(real(byte, samples));
     cases
@@ -234,6 +236,15 @@ fn bodies(byte: u8, rng: &mut Rng) -> Vec<Case> {
         let mut plan = Plan::new(lines, rng);
         plan.number = [number, 0, 99][k % 3];
         cases.push(Case::aimed(plan.call(byte), BAD_RECORD, words));
+    }
+    cases
+}
+
+/// Padded integers in every place.
+fn padded(byte: u8, rng: &mut Rng) -> Vec<Case> {
+    let mut cases = Vec::new();
+    for padded::Record { words, lines, aim } in padded::records(rng) {
+        cases.push(Case::aimed(Plan::new(lines, rng).call(byte), aim, words));
     }
     cases
 }

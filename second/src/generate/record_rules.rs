@@ -117,6 +117,7 @@ fn lengths(line: usize) -> Vec<Rule<Parts>> {
             &[("1", integer(1)), ("8", integer(8))],
             &[("0", integer(0)), ("9", integer(9))],
         ),
+        shortest(line),
         sides(
             rule(BAD_RECORD, "a text's length is below 128, or 81 to 84 and so many bytes"),
             line,
@@ -144,6 +145,35 @@ fn lengths(line: usize) -> Vec<Rule<Parts>> {
             ],
         ),
     ]
+}
+
+/// Integers of more than one byte, at the edge of the numbers that need so many.
+fn shortest(line: usize) -> Rule<Parts> {
+    let integer = |value: &[u8]| [&[0x02, value.len() as u8], value].concat();
+    let eight = |first: u8, second: u8, rest: u8| integer(&[&[first, second], &[rest; 6][..]].concat());
+    sides(
+        rule(BAD_RECORD, "the first nine bits of an integer of more than one byte are not all equal"),
+        line,
+        &[
+            ("00", integer(&[0x00])),
+            ("FF", integer(&[0xFF])),
+            ("00 80", integer(&[0x00, 0x80])),
+            ("FF 7F", integer(&[0xFF, 0x7F])),
+            ("01 00", integer(&[0x01, 0x00])),
+            ("FE FF", integer(&[0xFE, 0xFF])),
+            ("00 80 and six 00", eight(0x00, 0x80, 0x00)),
+            ("FF 7F and six FF", eight(0xFF, 0x7F, 0xFF)),
+        ],
+        &[
+            ("00 05", integer(&[0x00, 0x05])),
+            ("00 00", integer(&[0x00, 0x00])),
+            ("00 7F", integer(&[0x00, 0x7F])),
+            ("FF 80", integer(&[0xFF, 0x80])),
+            ("FF FF", integer(&[0xFF, 0xFF])),
+            ("00 7F and six FF", eight(0x00, 0x7F, 0xFF)),
+            ("FF 80 and six 00", eight(0xFF, 0x80, 0x00)),
+        ],
+    )
 }
 
 /// How lists and choices begin and end.
