@@ -31,14 +31,9 @@ unfolding read startOf listEnd integerPart integerAllowed textPart longPart part
 wrong-byte = refl
 
 -- a padded integer is 20 where it stands left of an element at depth 17; right of one it is not met, and at depth 17 its first byte is 21
-pub padded-left : read 16 F.Any (48 ∷ 128 ∷ 2 ∷ 2 ∷ 0 ∷ 5 ∷ nested 15 (2 ∷ [])) 0 ≡ Refused BadHeader
+pub padded-met :
+    (read 16 F.Any (48 ∷ 128 ∷ 2 ∷ 2 ∷ 0 ∷ 5 ∷ nested 15 (2 ∷ [])) 0 ≡ Refused BadHeader)
+    × (read 16 F.Any (48 ∷ 128 ∷ nested 15 (2 ∷ []) ++ (2 ∷ 2 ∷ 0 ∷ 5 ∷ 0 ∷ 0 ∷ [])) 0 ≡ Refused TooDeep)
+    × (read 16 F.Any (nested 16 (2 ∷ 2 ∷ 0 ∷ 5 ∷ [])) 0 ≡ Refused TooDeep)
 unfolding read startOf listEnd integerPart integerAllowed textPart longPart partAt value opens closes tooDeep
-padded-left = refl
-
-pub padded-right : read 16 F.Any (48 ∷ 128 ∷ nested 15 (2 ∷ []) ++ (2 ∷ 2 ∷ 0 ∷ 5 ∷ 0 ∷ 0 ∷ [])) 0 ≡ Refused TooDeep
-unfolding read startOf listEnd integerPart integerAllowed textPart longPart partAt value opens closes tooDeep
-padded-right = refl
-
-pub padded-deep : read 16 F.Any (nested 16 (2 ∷ 2 ∷ 0 ∷ 5 ∷ [])) 0 ≡ Refused TooDeep
-unfolding read startOf listEnd integerPart integerAllowed textPart longPart partAt value opens closes tooDeep
-padded-deep = refl
+padded-met = (refl, refl, refl)

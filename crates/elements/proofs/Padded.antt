@@ -11,7 +11,7 @@ use lib.ListN.{length, getD}
 use lib.Dec.{ltb, eqb}
 use lib.Pow.{shr-shr}
 use Rattle.laws.specs.Places.{every}
-use Rattle.laws.proofs.Tests.{both-pass}
+use Rattle.laws.proofs.Tests.{never, bool-cases, both-pass}
 use Rattle.laws.proofs.Places.{every-at, every-all, every-same}
 use Rattle.elements.specs.Parts.{isPadded}
 use Rattle.elements.specs.Statement.{bitAt, Padded}
@@ -28,6 +28,13 @@ pub bytes-padded : (bytes : List ℕ) → Padded bytes → isPadded bytes ≡ tr
 bytes-padded bytes b =
     let same : ℕ → Bool = λ i. eqb (bitAt bytes i) (bitAt bytes 0) in
     ap₂ _&&_ (lt-ltb _ _ (b .more)) (every-all same 9 (λ i h. eq-eqb _ _ (b .equal i h)))
+
+-- the same where they fail
+pub false-unpadded : (bytes : List ℕ) → isPadded bytes ≡ false → Padded bytes → ⊥
+false-unpadded bytes e b = never (sym e ∙ bytes-padded bytes b)
+
+pub unpadded-false : (bytes : List ℕ) → (Padded bytes → ⊥) → isPadded bytes ≡ false
+unpadded-false bytes h = bool-cases (isPadded bytes) (λ e. absurd (h (padded-bytes bytes e))) (λ e. e)
 
 -- ---- the first nine bits as a number
 
@@ -47,30 +54,31 @@ beq-same false false e = refl
 bits-equal : (n : ℕ) → n < 512 → bitsEqual n ≡ allOrNone n
 bits-equal n h = beq-same _ _ (every-at (λ n. Bool·beq (bitsEqual n) (allOrNone n)) 512 n h refl)
 
-module _ (bytes : List ℕ) (first : getD bytes 0 0 < 256) (second : getD bytes 1 0 < 256) where
-  -- the first nine bits: the first byte, and the highest bit of the second
-  abbrev pub nine : ℕ
-  nine = getD bytes 0 0 * 2 + getD bytes 1 0 / 128
+-- the first byte, and the highest bit of the second
+abbrev pub nineBits : List ℕ → ℕ
+nineBits bytes = getD bytes 0 0 * 2 + getD bytes 1 0 / 128
 
-  bit-nine : (i : ℕ) → i < 9 → bitAt bytes i ≡ nine / 2 ^ (8 - i) % 2
+module _ (bytes : List ℕ) (first : getD bytes 0 0 < 256) (second : getD bytes 1 0 < 256) where
+  bit-nine : (i : ℕ) → i < 9 → bitAt bytes i ≡ nineBits bytes / 2 ^ (8 - i) % 2
   bit-nine i h = ⊎-elim last before (eq-or-lt-of-le (le-of-suc-le-suc h))
     where
-      last : i ≡ 8 → bitAt bytes i ≡ nine / 2 ^ (8 - i) % 2
+      last : i ≡ 8 → bitAt bytes i ≡ nineBits bytes / 2 ^ (8 - i) % 2
       last e = rw e (omega arith)
 
-      before : i < 8 → bitAt bytes i ≡ nine / 2 ^ (8 - i) % 2
+      before : i < 8 → bitAt bytes i ≡ nineBits bytes / 2 ^ (8 - i) % 2
       before l =
           let q : i / 8 ≡ 0 = omega arith in
           let r : i % 8 ≡ i = omega arith in
           let k : 8 - i ≡ 1 + (7 - i) = omega arith in
-          let t : nine / 2 ^ 1 ≡ getD bytes 0 0 = omega arith in
-          rw (q, r, k, ← shr-shr nine 1 (7 - i), t)
+          let t : nineBits bytes / 2 ^ 1 ≡ getD bytes 0 0 = omega arith in
+          rw (q, r, k, ← shr-shr (nineBits bytes) 1 (7 - i), t)
 
   -- padded is: more than one byte, and the first nine bits all 0 or all 1
-  pub padded-nine : isPadded bytes ≡ (ltb 1 (length bytes) && allOrNone nine)
+  pub padded-nine : isPadded bytes ≡ (ltb 1 (length bytes) && allOrNone (nineBits bytes))
   padded-nine =
-      let n : nine < 512 = omega arith in
+      let n = nineBits bytes in
+      let l : n < 512 = omega arith in
       ap (λ (b : Bool). ltb 1 (length bytes) && b)
-      (every-same (λ i. eqb (bitAt bytes i) (bitAt bytes 0)) (λ i. eqb (nine / 2 ^ (8 - i) % 2) (nine / 2 ^ 8 % 2)) 9
+      (every-same (λ i. eqb (bitAt bytes i) (bitAt bytes 0)) (λ i. eqb (n / 2 ^ (8 - i) % 2) (n / 2 ^ 8 % 2)) 9
       (λ i h. ap₂ eqb (bit-nine i h) (bit-nine 0 (omega arith)))
-      ∙ bits-equal nine n)
+      ∙ bits-equal n l)

@@ -7,15 +7,16 @@ use lib.Pow.{pow-add}
 use native.Mathlib.Nat.{add-zero, mul-suc, pow-suc, pow-le-pow-right, lt-of-lt-of-le}
 use native.Mathlib.Omega.{arith}
 use native.Mathlib.Numerals.{add-one}
-use borrow.Author.Tests.{lt-ltb, le-ltb, le-leb, lt-leb, eq-eqb, ne-eqb, ltb-true, ltb-false, leb-true}
+use borrow.Author.Tests.{lt-ltb, le-ltb, le-leb, lt-leb, eq-eqb, ne-eqb, ltb-true, ltb-false, leb-true, not-true}
 use lib.ListN.{length, getD, drop, length-drop, List·getD-eq-default}
 use lib.Seq.{getD-take, getD-drop, length-take-le}
 use lib.Dec.{ltb, leb, eqb}
+use lib.IntN.{pos, negsuc}
 use mir.Syntax.{w64}
 use mir.Val.{toZ}
 use mir.ValLaws.{toZ-pos, toZ-neg}
 use Rattle.laws.specs.Digits.{value, allBelow}
-use Rattle.laws.proofs.Tests.{never, both-pass, bool-cases}
+use Rattle.laws.proofs.Tests.{both-pass, bool-cases}
 use Rattle.laws.proofs.Digits.{below-all, below-take, below-drop, value-below}
 use Rattle.laws.proofs.Choices.{cond-elim}
 use Rattle.fields.specs.Number.{signed}
@@ -27,7 +28,7 @@ use Rattle.elements.specs.declared.IntegerAnswer.the-variants as I
 use Rattle.elements.specs.Grammar.{inRange}
 use Rattle.elements.specs.Parts.{span, bytesOf, partAt, isPadded, integerAllowed, integerPart, longPart, textPart, Within, integerOf, integerIn, integerAt, textAt}
 use Rattle.elements.specs.Statement.{IntegerBytes}
-use Rattle.elements.proofs.Padded.{padded-bytes, bytes-padded, allOrNone, padded-nine}
+use Rattle.elements.proofs.Padded.{false-unpadded, unpadded-false, allOrNone, padded-nine}
 
 pub bytes-length : (s : List ℕ) (at n : ℕ) → at + n ≤ length s → length (bytesOf s at n) ≡ n
 bytes-length s at n h = length-take-le n (drop at s) (rw length-drop (omega arith))
@@ -79,13 +80,11 @@ allowed-bytes bytes e =
     record {
       some = leb-true 1 (length bytes) (q .0);
       few = leb-true (length bytes) 8 (q .1);
-      unpadded = λ b. never (sym (ap not (bytes-padded bytes b)) ∙ p .1);
+      unpadded = false-unpadded bytes (not-true _ (p .1));
     }
 
 pub bytes-allowed : (bytes : List ℕ) → IntegerBytes bytes → integerAllowed bytes ≡ true
-bytes-allowed bytes b =
-    bool-cases (isPadded bytes) (λ e. absurd (b .unpadded (padded-bytes bytes e)))
-    (λ e. sym (allowed-some bytes (length bytes) refl false (b .some) (b .few) (sym e)))
+bytes-allowed bytes b = sym (allowed-some bytes (length bytes) refl false (b .some) (b .few) (sym (unpadded-false bytes (b .unpadded))))
 
 -- ---- where the bytes lie: past `lo`, and within s
 
@@ -191,15 +190,26 @@ byte-power (suc n) =
     let e : 8 * suc n ≡ 8 * n + 8 = mul-suc 8 n in
     ap (λ (k : ℕ). 2 ^ k) e ∙ pow-add 2 (8 * n) 8 ∙ ap (λ (k : ℕ). k * 256) (byte-power n) ∙ sym (pow-suc 256 n)
 
+-- what so many bytes write is below so many powers of 256
+pub value-bytes : (bytes : List ℕ) → allBelow 256 bytes ≡ true → value 8 0 bytes < 256 ^ length bytes
+value-bytes bytes e = let v = value-below 8 bytes e in rw (byte-power (length bytes)) at v
+
+-- two's complement of w bytes: the upper half of the numbers are the negative ones
+module _ (w x : ℕ) where
+  pub signed-pos : x < 256 ^ w / 2 → signed w x ≡ pos x
+  signed-pos h = rw (lt-ltb _ _ h)
+
+  pub signed-neg : 256 ^ w / 2 ≤ x → signed w x ≡ negsuc (256 ^ w - suc x)
+  signed-neg h = rw (le-ltb _ _ h)
+
 module _ {s : List ℕ} {at n x most : ℕ} (c : Counted s at n x most) where
   -- a number is at most the largest of as many bytes
   pub value-small : x ≤ most
   value-small =
       let l : length (bytesOf s at n) ≡ n = bytes-length s at n (c .room) in
       let b : allBelow 256 (bytesOf s at n) ≡ true = below-take 256 n (drop at s) (below-drop 256 at s (below-all 256 s (λ i _. c .small i))) in
-      let v : value 8 0 (bytesOf s at n) < 2 ^ (8 * length (bytesOf s at n)) = value-below 8 (bytesOf s at n) b in
-      let w : 2 ^ (8 * n) ≡ 256 ^ n = byte-power n in
-      let u : value 8 0 (bytesOf s at n) < 2 ^ (8 * n) = rw l at v in
+      let v : value 8 0 (bytesOf s at n) < 256 ^ length (bytesOf s at n) = value-bytes (bytesOf s at n) b in
+      let u : value 8 0 (bytesOf s at n) < 256 ^ n = rw l at v in
       omega (arith, c .is, c .top)
 
   pub most-fits : most ≤ 18446744073709551615
@@ -208,11 +218,11 @@ module _ {s : List ℕ} {at n x most : ℕ} (c : Counted s at n x most) where
   half : 256 ^ n / 2 ≡ most / 2 + 1
   half = let k = even n (c .some) in omega (arith, c .top)
 
-  -- two's complement of n bytes: the upper half of the numbers are the negative ones
+  -- the machine's number of each half
   pub signed-low : x ≤ most / 2 → toZ w64 x ≡ integerOf s at n
   signed-low h =
       let l : x < 256 ^ n / 2 = omega (arith, half) in
-      let e : toZ w64 x ≡ signed n x = toZ-pos w64 x (omega (arith, most-fits)) ∙ rw (lt-ltb _ _ l) in
+      let e : toZ w64 x ≡ signed n x = toZ-pos w64 x (omega (arith, most-fits)) ∙ sym (signed-pos n x l) in
       e ∙ ap (signed n) (c .is)
 
   pub signed-high : most / 2 < x → toZ w64 (18446744073709551615 - (most - x)) ≡ integerOf s at n
@@ -223,7 +233,7 @@ module _ {s : List ℕ} {at n x most : ℕ} (c : Counted s at n x most) where
       let y : 256 ^ n - suc x ≡ most - x = omega (arith, c .top) in
       let k : most - x < 9223372036854775808 = omega arith in
       let z : 18446744073709551615 - (most - x) ≡ 18446744073709551616 - suc (most - x) = omega arith in
-      let e : toZ w64 (18446744073709551616 - suc (most - x)) ≡ signed n x = toZ-neg w64 (most - x) k ∙ rw (le-ltb _ _ g, y) in
+      let e : toZ w64 (18446744073709551616 - suc (most - x)) ≡ signed n x = toZ-neg w64 (most - x) k ∙ ap negsuc (sym y) ∙ sym (signed-neg n x g) in
       ap (toZ w64) z ∙ e ∙ ap (signed n) (c .is)
 
 -- ---- what the code's tests show

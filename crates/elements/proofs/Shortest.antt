@@ -7,7 +7,7 @@ use Prim.Native.Nat.{ℕ, suc, _+_, _-_, _*_, _/_, _%_, _^_, _≤_, _<_}
 use native.Mathlib.Nat.{zero-mul, zero-add, pow-suc, pow-le-pow-right, mul-le-mul-right, add-mul, mul-assoc, mod-eq-of-lt, le-antisymm}
 use native.Mathlib.Omega.{arith}
 use native.Mathlib.Numerals.{add-one, add-two}
-use borrow.Author.Tests.{lt-ltb, le-ltb, ltb-true, ltb-false, leb-true, leb-false, eqb-true, eqb-false}
+use borrow.Author.Tests.{lt-ltb, ltb-true, ltb-false, leb-true, leb-false, eqb-true, eqb-false}
 use lib.Arith.{digits-lt}
 use lib.Dec.{ltb, leb, eqb}
 use lib.IntN.{ℤ, pos, negsuc, pos-ne-negsuc}
@@ -18,7 +18,7 @@ use mir.Syntax.{w64}
 use mir.Val.{SFits, ofZ}
 use mir.ValLaws.{ofZ-fits, toZ-ofZ}
 use Rattle.laws.specs.Digits.{digits, value, allBelow}
-use Rattle.laws.proofs.Digits.{below-parts, below-take, below-drop, length-digits, value-after, value-below, digits-value, value-digits}
+use Rattle.laws.proofs.Digits.{below-parts, below-take, below-drop, length-digits, value-after, digits-value, value-digits}
 use Rattle.laws.proofs.Numbers.{digits-below}
 use Rattle.laws.proofs.Tests.{never, bool-cases}
 use Rattle.fields.specs.Number.{signed}
@@ -27,23 +27,16 @@ use Rattle.elements.specs.Parts.{bytesOf, isPadded}
 use Rattle.elements.specs.Statement.{IntegerBytes, IntegerElement, Padded}
 use Rattle.elements.specs.Written.{integerWritten}
 use Rattle.elements.specs.Shortest.{twosComplement, Shortest}
-use Rattle.elements.proofs.Padded.{padded-bytes, bytes-padded, allOrNone, padded-nine}
-use Rattle.elements.proofs.Parts.{byte-power}
+use Rattle.elements.proofs.Padded.{bytes-padded, false-unpadded, unpadded-false, allOrNone, nineBits, padded-nine}
+use Rattle.elements.proofs.Parts.{byte-power, value-bytes, signed-pos, signed-neg}
 
 -- ---- two's complement
 
-module _ (w x : ℕ) where
-  signed-low : x < 256 ^ w / 2 → signed w x ≡ pos x
-  signed-low h = rw (lt-ltb _ _ h)
-
-  signed-high : 256 ^ w / 2 ≤ x → signed w x ≡ negsuc (256 ^ w - suc x)
-  signed-high h = rw (le-ltb _ _ h)
-
-  signed-cases {ℓ} : {X : Type ℓ} → (x < 256 ^ w / 2 → signed w x ≡ pos x → X) → (256 ^ w / 2 ≤ x → signed w x ≡ negsuc (256 ^ w - suc x) → X) → X
-  signed-cases low high =
-      bool-cases (ltb x (256 ^ w / 2))
-      (λ e. let h = ltb-true _ _ e in low h (signed-low h))
-      (λ e. let h = ltb-false _ _ e in high h (signed-high h))
+signed-cases {ℓ} : {X : Type ℓ} (w x : ℕ) → (x < 256 ^ w / 2 → signed w x ≡ pos x → X) → (256 ^ w / 2 ≤ x → signed w x ≡ negsuc (256 ^ w - suc x) → X) → X
+signed-cases w x low high =
+    bool-cases (ltb x (256 ^ w / 2))
+    (λ e. let h = ltb-true _ _ e in low h (signed-pos w x h))
+    (λ e. let h = ltb-false _ _ e in high h (signed-neg w x h))
 
 -- a number of so many bytes has a magnitude below half of their numbers
 mag-below : (k y : ℕ) → y < 256 ^ suc k → mag (signed (suc k) y) < 256 ^ k * 128
@@ -64,9 +57,6 @@ signed-same w x y h l e =
 first-byte : (a : ℕ) (rest : List ℕ) → value 8 0 (a ∷ rest) ≡ a * 256 ^ length rest + value 8 0 rest
 unfolding value
 first-byte a rest = value-after 8 (0 * 2 ^ 8 + a) rest ∙ rw (byte-power (length rest), zero-mul, zero-add)
-
-value-small : (bytes : List ℕ) → allBelow 256 bytes ≡ true → value 8 0 bytes < 256 ^ length bytes
-value-small bytes e = let v = value-below 8 bytes e in rw (byte-power (length bytes)) at v
 
 -- as many bytes that write the same number are the same
 value-same : (xs ys : List ℕ) → allBelow 256 xs ≡ true → allBelow 256 ys ≡ true → length xs ≡ length ys → value 8 0 xs ≡ value 8 0 ys → xs ≡ ys
@@ -97,12 +87,12 @@ module _ (w unit left : ℕ) (size : 256 ^ w ≡ 512 * unit) (small : left < uni
   -- without its first byte a padded number is the same
   module _ (v : ℕ) (less : 256 ^ v ≡ 2 * unit) where
     signed-zeros : signed w (0 * unit + left) ≡ signed v (0 * unit + left)
-    signed-zeros = signed-low w (0 * unit + left) (omega arith) ∙ sym (signed-low v (0 * unit + left) (omega arith))
+    signed-zeros = signed-pos w (0 * unit + left) (omega arith) ∙ sym (signed-pos v (0 * unit + left) (omega arith))
 
     signed-ones : signed w (511 * unit + left) ≡ signed v (1 * unit + left)
     signed-ones =
         let m : 256 ^ w - suc (511 * unit + left) ≡ 256 ^ v - suc (1 * unit + left) = omega arith in
-        signed-high w (511 * unit + left) (omega arith) ∙ ap negsuc m ∙ sym (signed-high v (1 * unit + left) (omega arith))
+        signed-neg w (511 * unit + left) (omega arith) ∙ ap negsuc m ∙ sym (signed-neg v (1 * unit + left) (omega arith))
 
 module _ (a b : ℕ) (rest : List ℕ) (below : allBelow 256 (a ∷ b ∷ rest) ≡ true) where
   abbrev unit : ℕ
@@ -112,13 +102,13 @@ module _ (a b : ℕ) (rest : List ℕ) (below : allBelow 256 (a ∷ b ∷ rest) 
   left = b % 128 * 256 ^ length rest + value 8 0 rest
 
   abbrev nine : ℕ
-  nine = a * 2 + b / 128
+  nine = nineBits (a ∷ b ∷ rest)
 
   bytes-below : (a < 256) × (b < 256)
   bytes-below = let p = below-parts 256 a (b ∷ rest) below in (p .0, below-parts 256 b rest (p .1) .0)
 
   left-small : left < unit
-  left-small = digits-lt (omega arith) (value-small rest (below-parts 256 b rest (below-parts 256 a (b ∷ rest) below .1) .1))
+  left-small = digits-lt (omega arith) (value-bytes rest (below-parts 256 b rest (below-parts 256 a (b ∷ rest) below .1) .1))
 
   size-less : 256 ^ suc (length rest) ≡ 2 * unit
   size-less = let p : 256 ^ suc (length rest) ≡ 256 ^ length rest * 256 = pow-suc 256 (length rest) in omega arith
@@ -161,14 +151,11 @@ module _ (a b : ℕ) (rest : List ℕ) (below : allBelow 256 (a ∷ b ∷ rest) 
 
 -- ---- allowed bytes are the shortest form of their number, and of 1 to 8 bytes the shortest form is allowed
 
-not-padded : (bytes : List ℕ) → IntegerBytes bytes → isPadded bytes ≡ false
-not-padded bytes b = bool-cases (isPadded bytes) (λ e. absurd (b .unpadded (padded-bytes bytes e))) (λ e. e)
-
 -- what so many bytes write is not as far from 0 as a unit of more bytes
 not-wide : (other : List ℕ) (n : ℕ) → allBelow 256 other ≡ true → 1 ≤ length other → length other ≤ suc n → mag (twosComplement other) < 128 * 256 ^ n
 not-wide [] n e some few = absurd (omega arith)
 not-wide (y ∷ ys) n e some few =
-    let m : mag (twosComplement (y ∷ ys)) < 256 ^ length ys * 128 = mag-below (length ys) (value 8 0 (y ∷ ys)) (value-small (y ∷ ys) e) in
+    let m : mag (twosComplement (y ∷ ys)) < 256 ^ length ys * 128 = mag-below (length ys) (value 8 0 (y ∷ ys)) (value-bytes (y ∷ ys) e) in
     let p : 256 ^ length ys ≤ 256 ^ n = pow-le-pow-right {n = 256} (omega arith) {i = length ys} {j = n} (omega arith) in
     omega arith
 
@@ -179,7 +166,7 @@ allowed-shortest (a ∷ b ∷ rest) l i other m some e =
     bool-cases (leb (length other) (suc (length rest)))
     (λ t.
     let small : mag (twosComplement other) < 128 * 256 ^ length rest = not-wide other (length rest) m some (leb-true _ _ t) in
-    let wide : 128 * 256 ^ length rest ≤ mag (twosComplement (a ∷ b ∷ rest)) = unpadded-wide a b rest l (not-padded (a ∷ b ∷ rest) i) in
+    let wide : 128 * 256 ^ length rest ≤ mag (twosComplement (a ∷ b ∷ rest)) = unpadded-wide a b rest l (unpadded-false (a ∷ b ∷ rest) (i .unpadded)) in
     let same : mag (twosComplement other) ≡ mag (twosComplement (a ∷ b ∷ rest)) = ap mag e in
     absurd (omega arith))
     (λ f. let g : suc (length rest) < length other = leb-false _ _ f in omega arith)
@@ -202,7 +189,7 @@ pub allowed-same : (xs ys : List ℕ) → allBelow 256 xs ≡ true → allBelow 
 allowed-same xs ys a b i j e =
     let l : length xs ≡ length ys = le-antisymm (allowed-shortest xs a i ys b (j .some) (sym e)) (allowed-shortest ys b j xs a (i .some) e) in
     let f : signed (length ys) (value 8 0 xs) ≡ signed (length ys) (value 8 0 ys) = subst (λ (n : ℕ). signed n (value 8 0 xs) ≡ twosComplement ys) l e in
-    value-same xs ys a b l (signed-same (length ys) (value 8 0 xs) (value 8 0 ys) (subst (λ (n : ℕ). value 8 0 xs < 256 ^ n) l (value-small xs a)) (value-small ys b) f)
+    value-same xs ys a b l (signed-same (length ys) (value 8 0 xs) (value 8 0 ys) (subst (λ (n : ℕ). value 8 0 xs < 256 ^ n) l (value-bytes xs a)) (value-bytes ys b) f)
 
 -- a number that some bytes write has allowed ones: those behind the padding
 abbrev pub AllowedFor : ℤ → Type 0
@@ -216,7 +203,7 @@ stripped (a ∷ b ∷ rest) l some few =
     (λ e.
     let s = stripped (b ∷ rest) (below-parts 256 a (b ∷ rest) l .1) (omega arith) (omega arith) in
     (s .0, s .1, s .2, s .3 ∙ sym (padded-later a b rest l e)))
-    (λ e. (a ∷ b ∷ rest, l, record { some = some; few = few; unpadded = λ p. never (sym e ∙ bytes-padded (a ∷ b ∷ rest) p) }, refl))
+    (λ e. (a ∷ b ∷ rest, l, record { some = some; few = few; unpadded = false-unpadded (a ∷ b ∷ rest) e }, refl))
 
 -- every number of 64 bits has allowed bytes
 pub allowed-for : (z : ℤ) → SFits w64 z → AllowedFor z

@@ -13,7 +13,7 @@ use Rattle.fields.specs.Number.{signed}
 abbrev pub twosComplement : List ℕ → ℤ
 twosComplement bytes = signed (length bytes) (value 8 0 bytes)
 
--- No fewer bytes write the same number.
+-- No fewer bytes, of one or more, write the same number.
 abbrev pub Shortest : List ℕ → Type 0
 Shortest bytes =
     (other : List ℕ) → allBelow 256 other ≡ true → 1 ≤ length other → twosComplement other ≡ twosComplement bytes → length bytes ≤ length other
