@@ -3,7 +3,7 @@
 # make test       the gate: all proofs from nothing, every must-fail edit, every test
 # make edits      the wrong programs that are kept aside: the prover must refuse each
 # make wrong      wrong versions of the C programs: their tests must refuse each
-# make bench      the library beside the best C, unchecked C and memcpy, in one run; BEFORE=../old/build/libtiming.a: its decoding too
+# make bench      the library beside the best C, unchecked C and memcpy, in one run; BEFORE=../old/build/libtiming.a: beside that too
 # make torture    a longer comparison with the second program, over every call it finds: SEED=.. COUNT=.. (cases a call)
 # make install    PREFIX=/usr/local: header, library, programs, man pages and pkg-config file; needs no toolchain when built
 # make uninstall  takes them away again
@@ -93,12 +93,12 @@ edits:
 wrong: build/proved programs
 	tests/wrong/try
 
-# Of an earlier build of the library, its decoding under another name; made anew each time, since BEFORE may name another one.
+# Of an earlier build of the library, its decoding and set check under other names; made anew each time, since BEFORE may change.
 build/bench/before.o: $(BEFORE) FORCE
 	@mkdir -p build/bench
 	$(LD) -r --whole-archive -o $@ $(BEFORE)
-	objcopy --redefine-sym gull_time_decode=before_decode $@
-	objcopy --keep-global-symbol=before_decode $@
+	objcopy --redefine-sym gull_time_decode=before_decode --redefine-sym gull_time_check_set=before_check_set $@
+	objcopy --keep-global-symbol=before_decode --keep-global-symbol=before_check_set $@
 
 FORCE:
 

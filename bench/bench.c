@@ -12,13 +12,16 @@
  * sequences of 400 residues, or of 500 of 100,000, DNA with 1% N, and of 2,000 such; as many pages are fetched as the volume would fill,
  * and the second reference is the library's own decoding, a call for each sequence. Nucleotides are written from one sequence of bases,
  * plain, with 1% N in stretches of 50 to 5,000, and with 10% ambiguous codes of every kind, scattered; up to 10 million residues the table
- * has entries of 32 bits, with 100 million of 64. A set's sequences are such proteins, or contigs of 200 to 20,000 bases with 1% N. */
+ * has entries of 32 bits, with 100 million of 64. A set's sequences are such proteins, or contigs of 200 to 20,000 bases with 1% N; each
+ * set is turned to big-endian too. In rows of their own the second reference is the library's check of the same set little-endian, or, for
+ * that one, the check of an earlier build. */
 #include "bench.h"
 
 #include <stdio.h>
 #include <string.h>
 
 #include "measure.h"
+#include "reference.h"
 #include "table.h"
 
 static int compare_all(void)
@@ -32,28 +35,37 @@ static int compare_all(void)
     return print_agreed();
 }
 
+/* The rows of a section with inputs of 1, 10 and 100 MB. */
+static void each_size(void (*rows)(size_t bytes))
+{
+    for (size_t bytes = 1000000; bytes <= 100000000; bytes *= 10)
+        rows(bytes);
+}
+
 static void time_all(void)
 {
     print_head("Packing and unpacking, MB of residues; the library's speed, and that as a ratio to", "unchecked C");
-    for (size_t size = 1000000; size <= 100000000; size *= 10)
-        time_runs(size);
+    each_size(time_runs);
     printf("\nA call before and with its first packet\n");
     time_calls();
     print_head("The volume check, MB of index", "");
     for (size_t size = 40000; size <= 4000000; size *= 10)
         time_volumes(size);
     print_head("Decoding, MB of residues", "before");
-    for (size_t size = 1000000; size <= 100000000; size *= 10)
-        time_sequences(size);
+    each_size(time_sequences);
     time_short_sequences();
     print_head("Fetching pages of fifty, MB of residues", "single calls");
     time_pages();
     print_head("Writing nucleotides, MB of codes", "plain C");
-    for (size_t size = 1000000; size <= 100000000; size *= 10)
-        time_nucleotides(size);
+    each_size(time_nucleotides);
     print_head("The set check, MB of the sequence file", "plain C");
-    for (size_t size = 1000000; size <= 100000000; size *= 10)
-        time_sets(size);
+    each_size(time_sets);
+    print_head("The set check of big-endian sets, beside the library's check of the same sets little-endian", "little");
+    each_size(time_orders);
+    if (before_check_set) {
+        print_head("The set check, beside that of the earlier build", "before");
+        each_size(time_sets_before);
+    }
     print_table();
 }
 

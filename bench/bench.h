@@ -19,5 +19,7 @@ void time_short_sequences(void);
 void time_pages(void);
 void time_nucleotides(size_t residues);
 void time_sets(size_t bytes);
+void time_orders(size_t bytes);
+void time_sets_before(size_t bytes);
 
 #endif

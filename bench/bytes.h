@@ -9,6 +9,10 @@
 /* The most bytes of an input range. */
 #define MOST_BYTES 2147483647u
 
+/* The byte orders. A function over an order is inlined wherever it is called with a constant one, so that each order has a version. */
+enum order { LITTLE, BIG };
+#define OVER_ORDER static inline __attribute__((always_inline))
+
 static inline uint32_t le32(const uint8_t *p)
 {
     uint32_t v;
@@ -26,6 +30,16 @@ static inline uint64_t le64(const uint8_t *p)
 static inline uint32_t be32(const uint8_t *p)
 {
     return __builtin_bswap32(le32(p));
+}
+
+OVER_ORDER uint32_t read32(const uint8_t *p, enum order order)
+{
+    return order == BIG ? be32(p) : le32(p);
+}
+
+OVER_ORDER uint64_t read64(const uint8_t *p, enum order order)
+{
+    return order == BIG ? __builtin_bswap64(le64(p)) : le64(p);
 }
 
 static inline void put32(uint8_t *p, uint32_t v)

@@ -37,10 +37,11 @@ unpack_call unchecked_unpack;
 /* The set check packet by packet and byte by byte: the reference of earlier benchmarks. */
 set_call plain_check_set;
 
+/* Of an earlier build of the library; absent unless `make bench` is given one. */
+__attribute__((weak)) decode_call before_decode;
+__attribute__((weak)) set_call before_check_set;
+
 /* Nucleotides written code by code. */
 write_call plain_write_nucleotides;
-
-/* The residues of a well-formed run of little-endian packets, or -1. */
-int64_t c_run_residues(uint32_t alphabet, const uint8_t *packets, size_t n);
 
 #endif

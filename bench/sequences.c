@@ -127,9 +127,6 @@ void compare_sequences(void)
         compare_lengths(0, 131072 - 8, 8 + 40, c, 20);
 }
 
-/* The decoding of an earlier build of the library; absent unless `make bench` is given one. */
-__attribute__((weak)) decode_call before_decode;
-
 static void time_decoding(const char *name, struct volume ours)
 {
     struct volume best = ours, before = ours;

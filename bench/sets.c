@@ -1,4 +1,4 @@
-/* The set check over amino and DNA sets of many sequences: all versions compared, and timed. */
+/* The set check over amino and DNA sets of many sequences, of both byte orders: all versions compared, and timed. */
 #include <stdlib.h>
 #include <string.h>
 
@@ -6,11 +6,13 @@
 #include "measure.h"
 #include "packets.h"
 #include "reference.h"
+#include "set.h"
 #include "timing.h"
 
 struct set {
     uint8_t *index, *metadata, *sequence;
     size_t index_len, metadata_len, sequence_len;
+    enum order order;
     set_call *check;
 };
 
@@ -76,7 +78,7 @@ static void put_index_fields(struct set *s, uint32_t alphabet, const struct long
     put64(s->index + 44, residues);
 }
 
-/* A set of n sequences. */
+/* A little-endian set of n sequences. */
 static struct set make_set(uint32_t alphabet, size_t n)
 {
     struct set s;
@@ -84,6 +86,7 @@ static struct set make_set(uint32_t alphabet, size_t n)
     size_t at = 0, behind = 8, residues = 0, longest_run = alphabet == AMINO ? 500 : 3500;
     uint8_t *codes = touched(20001), results[16];
     uint64_t state = 23;
+    s.order = LITTLE;
     s.index_len = 52 + 16 * n;
     s.index = touched(s.index_len);
     s.metadata = touched(8 + 130 * n);
@@ -109,6 +112,41 @@ static struct set make_set(uint32_t alphabet, size_t n)
     return s;
 }
 
+/* A file of so many bytes once more. */
+static uint8_t *copy_of(const uint8_t *file, size_t len)
+{
+    return memcpy(touched(len), file, len);
+}
+
+/* Turns so many integers of a width, one behind another, to the other byte order. */
+static void turn(uint8_t *at, size_t width, size_t count)
+{
+    for (size_t i = 0; i < count; i++, at += width)
+        for (size_t k = 0; k < width / 2; k++) {
+            uint8_t byte = at[k];
+            at[k] = at[width - 1 - k];
+            at[width - 1 - k] = byte;
+        }
+}
+
+/* A copy of a little-endian set, made big-endian: fields, ends, packets and taxonomy ids, which the metadata ends find. Text stays. */
+static struct set turned_set(const struct set *little)
+{
+    struct set s = *little;
+    size_t n = (s.index_len - 52) / 16;
+    s.order = BIG;
+    s.index = copy_of(s.index, s.index_len);
+    s.metadata = copy_of(s.metadata, s.metadata_len);
+    s.sequence = copy_of(s.sequence, s.sequence_len);
+    for (size_t i = 0; i < n; i++)
+        turn(s.metadata + 8 + le64(s.index + 52 + 16 * i) - 3, 4, 1);
+    turn(s.index, 4, 7);
+    turn(s.index + 28, 8, 3 + 2 * n);
+    turn(s.metadata, 4, 2);
+    turn(s.sequence, 4, s.sequence_len / 4);
+    return s;
+}
+
 static void free_set(struct set *s)
 {
     free(s->index);
@@ -116,29 +154,51 @@ static void free_set(struct set *s)
     free(s->sequence);
 }
 
+static uint32_t check_by(set_call *check, const struct set *s, uint8_t *results, size_t results_len)
+{
+    return check(s->index, s->index_len, s->metadata, s->metadata_len, s->sequence, s->sequence_len, results, results_len);
+}
+
 static void check_once(void *context)
 {
     struct set *s = context;
-    uint8_t results[80];
-    must(s->check(s->index, s->index_len, s->metadata, s->metadata_len, s->sequence, s->sequence_len, results, 80) == 0, "a set");
+    uint8_t results[SET_RESULTS];
+    must(check_by(s->check, s, results, SET_RESULTS) == 0, "a set");
 }
 
 /* All checks answer alike and leave the same results. */
 static void agree_set(const struct set *s, size_t results_len, const char *what)
 {
     static set_call *const checks[3] = {gull_time_check_set, c_check_set, plain_check_set};
-    uint8_t results[3][80];
+    uint8_t results[3][SET_RESULTS];
     uint32_t answer[3];
     memset(results, 9, sizeof results);
     for (int k = 0; k < 3; k++)
-        answer[k] = checks[k](s->index, s->index_len, s->metadata, s->metadata_len, s->sequence, s->sequence_len, results[k], results_len);
-    agree(answer[0] == answer[1] && answer[0] == answer[2] && memcmp(results[0], results[1], 80) == 0 &&
-              memcmp(results[0], results[2], 80) == 0,
+        answer[k] = check_by(checks[k], s, results[k], results_len);
+    agree(answer[0] == answer[1] && answer[0] == answer[2] && memcmp(results[0], results[1], SET_RESULTS) == 0 &&
+              memcmp(results[0], results[2], SET_RESULTS) == 0,
           what);
 }
 
+/* The same with results ranges of every length; and the library's results of a set and of the same set big-endian differ in the order
+ * alone. */
+static void agree_orders(const struct set *little, const struct set *big)
+{
+    uint8_t results[2][SET_RESULTS];
+    for (size_t room = 0; room <= SET_RESULTS; room++) {
+        uint32_t answer = room < SET_RESULTS ? 13 : 0;
+        agree_set(little, room, "a good set");
+        agree_set(big, room, "a good big-endian set");
+        memset(results, 9, sizeof results);
+        agree(check_by(gull_time_check_set, little, results[0], room) == answer &&
+                  check_by(gull_time_check_set, big, results[1], room) == answer && memcmp(results[0], results[1], 80) == 0 &&
+                  (answer != 0 || (le64(results[0] + 80) == LITTLE && le64(results[1] + 80) == BIG)),
+              "a set and the same set big-endian");
+    }
+}
+
 /* The same with a byte of a file changed, a file of another length, or the results range short. */
-static void agree_damaged(struct set *s, int times)
+static void agree_damaged(struct set *s, int times, const char *what)
 {
     uint64_t state = 29;
     struct set whole = *s;
@@ -154,23 +214,56 @@ static void agree_damaged(struct set *s, int times)
             *len[k] = (size_t)MOST_BYTES + 1;
         if (next_random(&state) % 32 == 0)
             s->index_len++; /* touched memory has a byte more */
-        agree_set(s, next_random(&state) % 16 ? 80 : 79, "a damaged set");
+        agree_set(s, next_random(&state) % 16 ? SET_RESULTS : SET_RESULTS - 1, what);
         *at = was;
         *s = whole;
     }
 }
 
 /* The same with an end that is the one before it, or one more or less. */
-static void agree_near(struct set *s, size_t n)
+static void agree_near(struct set *s, size_t n, const char *what)
 {
     for (size_t k = 0; k < 2 * n; k++) {
         uint8_t *at = s->index + 52 + 8 * k;
-        uint64_t was = le64(at), before = k < 2 ? UINT64_MAX : le64(at - 16);
+        uint64_t was = le64(at), before = k < 2 ? UINT64_MAX : read64(at - 16, s->order);
         for (uint64_t more = 0; more < 3; more++) {
             put64(at, before + more - 1);
-            agree_set(s, 80, "a set with an end near another");
+            if (s->order == BIG)
+                turn(at, 8, 1);
+            agree_set(s, SET_RESULTS, what);
         }
         put64(at, was);
+    }
+}
+
+/* The same with a packet whose codes are 0 but for one, which has every value at every place. */
+static void agree_codes(struct set *s, const char *what)
+{
+    uint64_t state = 37;
+    size_t packets = (s->sequence_len - 8) / 4;
+    for (uint32_t k = 0; k < 6 * 32 && packets > 0; k++) {
+        uint8_t *at = s->sequence + 8 + 4 * (next_random(&state) % packets);
+        uint32_t was = le32(at);
+        put32(at, (read32(at, s->order) & END_BIT) | FIVE_BIT | k % 32 << 5 * (k / 32));
+        if (s->order == BIG)
+            turn(at, 4, 1);
+        agree_set(s, SET_RESULTS, what);
+        put32(at, was);
+    }
+}
+
+/* The same with one file of the other order, which is refused, undamaged and damaged. */
+static void agree_mixed(const struct set *s, const struct set *other)
+{
+    struct set mixed[3] = {*s, *s, *s};
+    mixed[0].index = other->index;
+    mixed[1].metadata = other->metadata;
+    mixed[2].sequence = other->sequence;
+    for (int k = 0; k < 3; k++) {
+        uint8_t results[SET_RESULTS];
+        agree_set(&mixed[k], SET_RESULTS, "a set with a file of the other order");
+        agree(check_by(gull_time_check_set, &mixed[k], results, SET_RESULTS) == 14, "a set with a file of the other order");
+        agree_damaged(&mixed[k], 100, "a damaged set with a file of the other order");
     }
 }
 
@@ -178,23 +271,66 @@ void compare_sets(void)
 {
     for (uint32_t alphabet = 1; alphabet <= AMINO; alphabet++)
         for (size_t n = 0; n < 50; n = 3 * n + 1) {
-            struct set s = make_set(alphabet, n);
-            agree_set(&s, 80, "a good set");
-            agree_damaged(&s, 500);
-            agree_near(&s, n);
-            free_set(&s);
+            struct set little = make_set(alphabet, n), big = turned_set(&little);
+            agree_orders(&little, &big);
+            agree_damaged(&little, 500, "a damaged set");
+            agree_damaged(&big, 500, "a damaged big-endian set");
+            agree_near(&little, n, "a set with an end near another");
+            agree_near(&big, n, "a big-endian set with an end near another");
+            agree_codes(&little, "a set with a code of every value");
+            agree_codes(&big, "a big-endian set with a code of every value");
+            agree_mixed(&little, &big);
+            agree_mixed(&big, &little);
+            free_set(&little);
+            free_set(&big);
         }
+}
+
+/* A set with a sequence file of about so many bytes. */
+static struct set make_large(uint32_t alphabet, size_t bytes)
+{
+    return make_set(alphabet, bytes / (alphabet == AMINO ? 237 : 3130));
+}
+
+/* Times the library and the best C over a set, and a second reference over one. */
+static void time_checks(const char *name, struct set ours, struct set reference, set_call *check)
+{
+    struct set best = ours;
+    ours.check = gull_time_check_set;
+    best.check = c_check_set;
+    reference.check = check;
+    compare_times(name, ours.sequence_len, (struct versions){{check_once, &ours}, {check_once, &best}, {check_once, &reference}});
 }
 
 void time_sets(size_t bytes)
 {
+    static const char *const names[2][2] = {{"check DNA set with 1% N, of packets", "check DNA set with 1% N, big-endian"},
+                                            {"check amino set, of its packets", "check amino set, big-endian, of packets"}};
     for (uint32_t alphabet = 2; alphabet <= AMINO; alphabet++) {
-        struct set ours = make_set(alphabet, bytes / (alphabet == AMINO ? 237 : 3130)), best = ours, plain = ours;
-        ours.check = gull_time_check_set;
-        best.check = c_check_set;
-        plain.check = plain_check_set;
-        compare_times(alphabet == AMINO ? "check amino set, of its packets" : "check DNA set with 1% N, of packets", ours.sequence_len,
-                      (struct versions){{check_once, &ours}, {check_once, &best}, {check_once, &plain}});
-        free_set(&ours);
+        struct set little = make_large(alphabet, bytes), big = turned_set(&little);
+        time_checks(names[alphabet == AMINO][LITTLE], little, little, plain_check_set);
+        time_checks(names[alphabet == AMINO][BIG], big, big, plain_check_set);
+        free_set(&little);
+        free_set(&big);
+    }
+}
+
+void time_orders(size_t bytes)
+{
+    for (uint32_t alphabet = 2; alphabet <= AMINO; alphabet++) {
+        struct set little = make_large(alphabet, bytes), big = turned_set(&little);
+        time_checks(alphabet == AMINO ? "check amino set, big beside little" : "check DNA set, big beside little", big, little,
+                    gull_time_check_set);
+        free_set(&little);
+        free_set(&big);
+    }
+}
+
+void time_sets_before(size_t bytes)
+{
+    for (uint32_t alphabet = 2; alphabet <= AMINO; alphabet++) {
+        struct set s = make_large(alphabet, bytes);
+        time_checks(alphabet == AMINO ? "check amino set, beside before" : "check DNA set, beside before", s, s, before_check_set);
+        free_set(&s);
     }
 }

@@ -76,7 +76,7 @@ void add_call(const char *name, const double nanoseconds[3])
 
 void print_table(void)
 {
-    printf("\n| call | speed, GB/s | of the best C | of unchecked C; decoding: of before; page: of single calls; writing, set check: of plain C | of memcpy |\n"
+    printf("\n| call | speed, GB/s | of the best C | of unchecked C; decoding: of before; page: of single calls; writing, set check: of plain C, or of what it is beside | of memcpy |\n"
            "|---|---|---|---|---|\n");
     for (int i = 0; i < row_count; i++) {
         struct row *r = &rows[i];

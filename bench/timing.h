@@ -5,8 +5,10 @@
 #include <stddef.h>
 #include <stdint.h>
 
+/* The results are the ten header fields and the byte order, 0 for little-endian and 1 for big-endian, eight bytes each. */
 uint32_t gull_time_check_set(const uint8_t *index, size_t index_len, const uint8_t *metadata, size_t metadata_len,
                              const uint8_t *sequence, size_t sequence_len, uint8_t *results, size_t results_len);
+
 uint32_t gull_time_decode(const uint8_t *index, size_t index_len, const uint8_t *sequence, size_t sequence_len, uint64_t number,
                           uint8_t *out, size_t out_len);
 

@@ -1,60 +1,14 @@
 /* Unpacking in C with every check of the library's call, in its order. All packets before the last are tested in one pass without an
  * early exit (vectorised), six codes at once by a mask; then sixteen packets at a time are taken apart (vectorised) and stored. */
-#include "packets.h"
 #include "reference.h"
+#include "run.h"
 
 #define BLOCK 16
 
-/* Not 0 where one of so many packets of an amino run may not stand before the last: each has bit 30 alone and codes below 28. */
-static uint32_t amino_faults(const uint8_t *packets, size_t n)
+/* The residues of a well-formed run, or -1: a function of its own, since the loops that write are slower around it. */
+static __attribute__((noinline)) int64_t residues_of(uint32_t alphabet, const uint8_t *packets, size_t n)
 {
-    uint32_t faults = 0;
-    for (size_t i = 0; i < n; i++) {
-        uint32_t p = le32(packets + 4 * i);
-        faults |= ((p ^ FIVE_BIT) & (END_BIT | FIVE_BIT)) | (p & p >> 1 & p >> 2 & 0x08421084);
-    }
-    return faults;
-}
-
-/* The same for a nucleic run, with codes below 16; the 5-bit packets are counted. */
-static uint32_t nucleic_faults(const uint8_t *packets, size_t n, uint32_t *fives)
-{
-    uint32_t faults = 0, count = 0;
-    for (size_t i = 0; i < n; i++) {
-        uint32_t p = le32(packets + 4 * i), five = p >> 30 & 1;
-        faults |= p & (END_BIT | (-five & 0x21084210));
-        count += five;
-    }
-    *fives = count;
-    return faults;
-}
-
-/* The residues of a last packet, -1 for a bad one. */
-static int last_residues(uint32_t alphabet, uint32_t packet)
-{
-    if (!(packet & END_BIT))
-        return -1;
-    if (!(packet & FIVE_BIT))
-        return alphabet == AMINO ? -1 : 15;
-    uint32_t codes = packet & (FIVE_BIT - 1), tail = (uint32_t)__builtin_ctz(~codes) / 5;
-    codes >>= 5 * tail;
-    uint32_t bad = alphabet == AMINO ? codes & codes >> 1 & codes >> 2 & 0x08421084 : codes & 0x21084210;
-    return bad ? -1 : 6 - (int)tail;
-}
-
-int64_t c_run_residues(uint32_t alphabet, const uint8_t *packets, size_t n)
-{
-    uint32_t fives;
-    if (n == 0)
-        return -1;
-    int last = last_residues(alphabet, le32(packets + 4 * (n - 1)));
-    if (last < 0 || (last == 0 && n > 1))
-        return -1;
-    if (alphabet == AMINO)
-        return amino_faults(packets, n - 1) ? -1 : 6 * (int64_t)(n - 1) + last;
-    if (nucleic_faults(packets, n - 1, &fives))
-        return -1;
-    return 15 * (int64_t)(n - 1) - 9 * (int64_t)fives + last;
+    return run_residues(alphabet, packets, n, LITTLE);
 }
 
 /* The first four codes of a 5-bit packet, a byte each, and the last two. */
@@ -211,7 +165,7 @@ uint32_t c_unpack(uint32_t alphabet, const uint8_t *packets, size_t packets_len,
         return 1;
     if (alphabet < 1 || alphabet > AMINO)
         return 3;
-    int64_t residues = c_run_residues(alphabet, packets, n);
+    int64_t residues = residues_of(alphabet, packets, n);
     if (residues < 0)
         return 17;
     if ((uint64_t)residues > codes_len)

@@ -27,9 +27,9 @@ extern "C" {
 
 /* The version of this header and of the library and the programs beside it. */
 #define GULL_VERSION_MAJOR 0
-#define GULL_VERSION_MINOR 6
+#define GULL_VERSION_MINOR 7
 #define GULL_VERSION_PATCH 0
-#define GULL_VERSION "0.6.0"
+#define GULL_VERSION "0.7.0"
 
 /* Answers. */
 enum {

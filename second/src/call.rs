@@ -127,7 +127,8 @@ pub const SIGNATURES: [Signature; 16] = [
         byte: LOOKUP,
         name: "lookup",
         kinds: &[
-            Number, Number, Number, Number, Number, Number, Number, Number, Number, Number, Range, Number,
+            Number, Number, Number, Number, Number, Number, Number, Number, Number, Number, Number, Range,
+            Number,
         ],
         numbers: &[0, 1, 4, 6, 7, 10, 22],
         large: Large::Contract,

@@ -2,7 +2,7 @@
 //! numbers; a results range that is too short is 13, after every other refusal.
 
 use crate::answers::*;
-use crate::fields::{little_bytes, little_unsigned};
+use crate::fields::{little_bytes, ByteOrder};
 use crate::residues::Alphabet;
 use crate::runs::{residues_for, run_for};
 use crate::volume::check_volume;
@@ -50,7 +50,7 @@ pub fn console_unpack(alphabet: i128, packets: &[u8], output: &mut [u8], results
     ask_sizes(&[packets])?;
     ask(packets.len() as i128 % 4 == 0, ENDS_TOO_EARLY)?;
     let alphabet = Alphabet::of_number(alphabet)?;
-    let run = packets_of_bytes(packets);
+    let run = packets_of_bytes(packets, ByteOrder::Little);
     let residues = residues_for(alphabet, &run, output.len() as i128)?;
     ask_results(results, 2)?;
     output[..residues.len()].copy_from_slice(&residues);
@@ -58,9 +58,9 @@ pub fn console_unpack(alphabet: i128, packets: &[u8], output: &mut [u8], results
     Ok(())
 }
 
-/// Packets out of little-endian bytes, whole ones only.
-pub fn packets_of_bytes(bytes: &[u8]) -> Vec<u32> {
-    bytes.chunks_exact(4).map(|four| little_unsigned(four) as u32).collect()
+/// Packets out of bytes, whole ones only.
+pub fn packets_of_bytes(bytes: &[u8], byte_order: ByteOrder) -> Vec<u32> {
+    bytes.chunks_exact(4).map(|four| byte_order.unsigned(four) as u32).collect()
 }
 
 /// The bytes of one run of codes, with all the room it needs.
@@ -74,5 +74,6 @@ pub fn unpacked(alphabet: i128, packets: &[u8]) -> Answer<Vec<u8>> {
     ask_sizes(&[packets])?;
     ask(packets.len() as i128 % 4 == 0, ENDS_TOO_EARLY)?;
     let alphabet = Alphabet::of_number(alphabet)?;
-    residues_for(alphabet, &packets_of_bytes(packets), 15 * packets.len() as i128)
+    let run = packets_of_bytes(packets, ByteOrder::Little);
+    residues_for(alphabet, &run, 15 * packets.len() as i128)
 }

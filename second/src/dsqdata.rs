@@ -2,15 +2,18 @@
 
 use crate::answers::*;
 use crate::console::packets_of_bytes;
-use crate::fields::{little_signed, little_unsigned};
+use crate::fields::{little_unsigned, ByteOrder};
 use crate::metadata::{read_metadata, Metadata};
 use crate::packets::{is_well_formed, residues_of};
 use crate::residues::Alphabet;
 
-/// The magic number of every file of a set.
+/// The magic of every file of a set.
 pub const MAGIC: i128 = 0xc4d3_d1b1;
 
-/// The ten header fields of the index, in file order.
+/// What the magic reads, little-endian, where a big-endian machine wrote it (request 2026-07).
+pub const TURNED_MAGIC: i128 = 0xb1d1_d3c4;
+
+/// The ten header fields of the index, in file order, and the set's byte order.
 #[derive(Clone, Copy, Debug, PartialEq, Eq)]
 pub struct SetRecord {
     pub magic: i128,
@@ -23,13 +26,14 @@ pub struct SetRecord {
     pub longest_sequence: i128,
     pub count: i128,
     pub residues: i128,
+    pub byte_order: ByteOrder,
 }
 
 impl SetRecord {
     /// Seven fields of four bytes, then three of eight, from the first 52 bytes.
-    fn read(index: &[u8]) -> SetRecord {
-        let four = |k: usize| little_unsigned(&index[4 * k..4 * k + 4]);
-        let eight = |k: usize| little_unsigned(&index[28 + 8 * k..36 + 8 * k]);
+    fn read(index: &[u8], byte_order: ByteOrder) -> SetRecord {
+        let four = |k: usize| byte_order.unsigned(&index[4 * k..4 * k + 4]);
+        let eight = |k: usize| byte_order.unsigned(&index[28 + 8 * k..36 + 8 * k]);
         SetRecord {
             magic: four(0),
             tag: four(1),
@@ -41,6 +45,7 @@ impl SetRecord {
             longest_sequence: eight(0),
             count: eight(1),
             residues: eight(2),
+            byte_order,
         }
     }
 
@@ -56,6 +61,7 @@ impl SetRecord {
             self.longest_sequence,
             self.count,
             self.residues,
+            self.byte_order.number(),
         ]
     }
 }
@@ -68,22 +74,35 @@ pub struct Ends {
 }
 
 /// The ends of all sequences, from an index of the right length.
-pub fn read_ends(index: &[u8]) -> Vec<Ends> {
-    index[52..]
-        .chunks(16)
-        .map(|both| Ends { metadata: little_signed(&both[..8]), packets: little_signed(&both[8..]) })
-        .collect()
+pub fn read_ends(index: &[u8], byte_order: ByteOrder) -> Vec<Ends> {
+    let ends = |both: &[u8]| Ends {
+        metadata: byte_order.signed(&both[..8]),
+        packets: byte_order.signed(&both[8..]),
+    };
+    index[52..].chunks(16).map(ends).collect()
 }
 
-/// The rules in their order: 22; 1 and 14 file by file; 15; 3; 4; 4; 1, 6; 1; 7; 17; 19; 9.
+/// The byte order that a file's magic tells; 14 where it is neither.
+fn byte_order_of(file: &[u8]) -> Answer<ByteOrder> {
+    match little_unsigned(&file[..4]) {
+        MAGIC => Ok(ByteOrder::Little),
+        TURNED_MAGIC => Ok(ByteOrder::Big),
+        _ => Err(WRONG_MAGIC),
+    }
+}
+
+/// The rules in their order: 22; 1 and 14 file by file; 15; 3; 4; 4; 1, 6; 1; 7; 17; 19; 9. The index sets the byte order;
+/// a later file of the other one is 14.
 pub fn check_set(index: &[u8], metadata: &[u8], sequence: &[u8]) -> Answer<SetRecord> {
     ask_sizes(&[index, metadata, sequence])?;
-    for (file, least) in [(index, 52), (metadata, 8), (sequence, 8)] {
-        ask(file.len() >= least, ENDS_TOO_EARLY)?;
-        ask(little_unsigned(&file[..4]) == MAGIC, WRONG_MAGIC)?;
+    ask(index.len() >= 52, ENDS_TOO_EARLY)?;
+    let byte_order = byte_order_of(index)?;
+    for file in [metadata, sequence] {
+        ask(file.len() >= 8, ENDS_TOO_EARLY)?;
+        ask(byte_order_of(file)? == byte_order, WRONG_MAGIC)?;
     }
-    let record = SetRecord::read(index);
-    let other_tags = [little_unsigned(&metadata[4..8]), little_unsigned(&sequence[4..8])];
+    let record = SetRecord::read(index, byte_order);
+    let other_tags = [metadata, sequence].map(|file| byte_order.unsigned(&file[4..8]));
     ask(other_tags == [record.tag, record.tag], TAGS_DIFFER)?;
     let alphabet = Alphabet::of_number(record.alphabet)?;
     ask(record.flags == 0, OUT_OF_RANGE)?;
@@ -91,8 +110,9 @@ pub fn check_set(index: &[u8], metadata: &[u8], sequence: &[u8]) -> Answer<SetRe
     ask(index.len() as i128 >= 52 + 16 * record.count, ENDS_TOO_EARLY)?;
     ask(index.len() as i128 == 52 + 16 * record.count, LEFT_OVER)?;
     ask((sequence.len() as i128 - 8) % 4 == 0, ENDS_TOO_EARLY)?;
-    let bodies = Bodies { metadata: metadata[8..].to_vec(), packets: packets_of_bytes(&sequence[8..]) };
-    check_bodies(&record, alphabet, &read_ends(index), &bodies)?;
+    let packets = packets_of_bytes(&sequence[8..], byte_order);
+    let bodies = Bodies { metadata: metadata[8..].to_vec(), packets };
+    check_bodies(&record, alphabet, &read_ends(index, byte_order), &bodies)?;
     Ok(record)
 }
 
@@ -110,8 +130,10 @@ fn check_bodies(record: &SetRecord, alphabet: Alphabet, ends: &[Ends], bodies: &
     ask(ends_hold(&packet_ends, bodies.packets.len()), BAD_OFFSETS)?;
     let runs = pieces(&packet_ends, &bodies.packets);
     ask(runs.iter().all(|run| is_well_formed(alphabet, run)), BAD_RUN)?;
-    let all: Option<Vec<Metadata>> =
-        pieces(&metadata_ends, &bodies.metadata).iter().map(|piece| read_metadata(piece)).collect();
+    let all: Option<Vec<Metadata>> = pieces(&metadata_ends, &bodies.metadata)
+        .iter()
+        .map(|piece| read_metadata(piece, record.byte_order))
+        .collect();
     let all = all.ok_or(BAD_METADATA)?;
     let lengths: Vec<i128> = runs.iter().map(|run| residues_of(run).len() as i128).collect();
     ask(totals_hold(record, &lengths, &all), WRONG_TOTALS)

@@ -4,6 +4,7 @@ use crate::answers::Answer;
 use crate::call::*;
 use crate::console::{console_check_volume, console_pack, console_unpack};
 use crate::dsqdata::check_set;
+use crate::fields::ByteOrder;
 use crate::identifiers::kind_name;
 use crate::lookup::lookup;
 use crate::nucleotides::{bases_of_code, write_nucleotides};
@@ -95,9 +96,10 @@ fn set_check_line(call: &Call) -> String {
     join(answer.map(|record| record.values()), &[])
 }
 
-/// The record's count is its ninth field.
+/// The record's count is its ninth field, and its byte order stands behind its tenth.
 fn lookup_line(call: &Call) -> String {
-    let answer = lookup(call.number(8), call.range(10), call.number(11));
+    let byte_order = ByteOrder::of_number(call.number(10));
+    let answer = lookup(call.number(8), byte_order, call.range(11), call.number(12));
     join(answer.map(|found| found.values()), &[])
 }
 

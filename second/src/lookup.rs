@@ -2,6 +2,7 @@
 
 use crate::answers::*;
 use crate::dsqdata::{read_ends, Ends};
+use crate::fields::ByteOrder;
 use crate::index::Part;
 
 /// The last end that a lookup takes.
@@ -20,14 +21,15 @@ impl Found {
     }
 }
 
-/// Its own checks in order: 22, 4, 1, 6, 10, 7. Of the record only the count is looked at.
-pub fn lookup(count: i128, index: &[u8], number: i128) -> Answer<Found> {
+/// Its own checks in order: 22, 4, 1, 6, 10, 7. Of the record only the count and the byte order are looked at, and of the
+/// index only its ends: its own magic is not asked.
+pub fn lookup(count: i128, byte_order: ByteOrder, index: &[u8], number: i128) -> Answer<Found> {
     ask_sizes(&[index])?;
     ask(count <= MOST_SEQUENCES, OUT_OF_RANGE)?;
     ask(index.len() as i128 >= 52 + 16 * count, ENDS_TOO_EARLY)?;
     ask(index.len() as i128 == 52 + 16 * count, LEFT_OVER)?;
     ask((0..count).contains(&number), NO_SUCH_NUMBER)?;
-    let ends = read_ends(index);
+    let ends = read_ends(index, byte_order);
     let here = ends[number as usize];
     let before = if number == 0 { Ends { metadata: -1, packets: -1 } } else { ends[number as usize - 1] };
     ask(end_holds(before.metadata, here.metadata), BAD_OFFSETS)?;

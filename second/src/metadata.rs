@@ -1,6 +1,6 @@
 //! One metadata record: name, accession and description, each closed by NUL, and the taxonomy id.
 
-use crate::fields::little_signed;
+use crate::fields::ByteOrder;
 
 #[derive(Clone, Debug, PartialEq, Eq)]
 pub struct Metadata {
@@ -10,15 +10,15 @@ pub struct Metadata {
     pub taxonomy_id: i128,
 }
 
-/// The record that these bytes are, where they are a good one and nothing more.
-pub fn read_metadata(bytes: &[u8]) -> Option<Metadata> {
+/// The record that these bytes are, where they are a good one and nothing more. Text has no byte order.
+pub fn read_metadata(bytes: &[u8], byte_order: ByteOrder) -> Option<Metadata> {
     let (name, rest) = text(bytes)?;
     let (accession, rest) = text(rest)?;
     let (description, rest) = text(rest)?;
     if rest.len() != 4 {
         return None;
     }
-    let metadata = Metadata { name, accession, description, taxonomy_id: little_signed(rest) };
+    let metadata = Metadata { name, accession, description, taxonomy_id: byte_order.signed(rest) };
     is_good(&metadata).then_some(metadata)
 }
 

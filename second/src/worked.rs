@@ -1,5 +1,6 @@
-//! Document 01's table for the desk, its listing's example and the cases of request 2026-06, as calls with the answers that
-//! the documents give, written out by hand. The rows that document 01 calls "Run only" are among them.
+//! Document 01's table for the desk, its listing's example, the cases of request 2026-06 and the magics of request 2026-07, as
+//! calls with the answers that the documents give, written out by hand. The rows that document 01 calls "Run only" are among
+//! them.
 
 use crate::call::{Argument::*, Call, *};
 use crate::generate::Case;
@@ -17,6 +18,7 @@ pub fn rows() -> Vec<WorkedRow> {
     rows.extend(integers());
     rows.extend(depths());
     rows.push(listed());
+    rows.extend(magics());
     rows
 }
 
@@ -156,4 +158,32 @@ fn listed() -> WorkedRow {
     }
     let call = Call::new(VOLUME_CHECK, vec![Range(index), Range(hex("000C0A0000")), Range(vec![])]);
     row("the listing's volume: MK and an empty sequence", call, "0 1 2 2 2 12 0 16 0")
+}
+
+/// The set check of an amino set without sequences. Each file has its magic in hex, its tag is 0, and the index has an alphabet.
+fn set(magics: [&str; 3], alphabet: &str) -> Call {
+    let files = magics.map(|magic| hex(&format!("{magic} 00000000")));
+    let mut ranges = files.map(Range).to_vec();
+    if let Range(index) = &mut ranges[0] {
+        index.extend(hex(alphabet));
+        index.resize(52, 0);
+    }
+    Call::new(SET_CHECK, ranges)
+}
+
+/// The magics as they stand in files: 0xc4d3d1b1 and 0xb1d1d3c4 are what they read little-endian.
+fn magics() -> Vec<WorkedRow> {
+    let [little, big] = ["B1D1D3C4", "C4D3D1B1"];
+    let apart = "2026-07: 14 for files of one set that differ in order";
+    vec![
+        row(
+            "magic 0xc4d3d1b1, read little-endian",
+            set([little; 3], "03000000"),
+            "0 3302216113 0 3 0 0 0 0 0 0 0 0",
+        ),
+        row("2026-07: magic reads 0xb1d1d3c4", set([big; 3], "00000003"), "0 3302216113 0 3 0 0 0 0 0 0 0 1"),
+        row("2026-07: 14 for any other magic", set(["C4D1D3B1"; 3], "00000003"), "14"),
+        row(apart, set([big, little, little], "00000003"), "14"),
+        row(apart, set([little, little, big], "03000000"), "14"),
+    ]
 }

@@ -1,4 +1,4 @@
-//! Real sets with their right answers, every run of theirs, and the lookup of each.
+//! Real sets with their right answers, in both byte orders, every run of theirs, and the lookup of each.
 
 mod common;
 
@@ -6,6 +6,8 @@ use second::answers::*;
 use second::call::{Argument, Call, LOOKUP};
 use second::console::packets_of_bytes;
 use second::dsqdata::{check_set, MAGIC};
+use second::fields::ByteOrder;
+use second::generate::samples::SampleSet;
 use second::line::line_of;
 use second::lookup::lookup;
 use second::metadata::read_metadata;
@@ -23,21 +25,28 @@ const SETS: [(&str, [i128; 7], u32); 7] = [
     ("star", [2, 0, 0, 0, 0, 0, 0], 17),
 ];
 
+/// Every real set in every byte order.
+fn real_sets() -> Vec<(SampleSet, ByteOrder)> {
+    let in_both = |set: SampleSet| ByteOrder::BOTH.map(|byte_order| (set.clone(), byte_order));
+    common::samples().sets.into_iter().flat_map(in_both).collect()
+}
+
 #[test]
 fn real_sets_have_their_answers() {
-    let samples = common::samples();
-    assert_eq!(samples.sets.len(), SETS.len());
-    for (name, row, base) in SETS {
-        let set = samples.sets.iter().find(|set| set.name == name).unwrap();
-        let answer = check_set(&set.index, &set.metadata, &set.sequence);
-        assert_eq!(answer.err().unwrap_or(0), base, "{name}");
+    assert_eq!(real_sets().len(), 2 * SETS.len());
+    for (set, byte_order) in real_sets() {
+        let (name, row, base) = SETS.into_iter().find(|(name, ..)| set.name == *name).unwrap();
+        let [index, metadata, sequence] = set.files_in(byte_order);
+        let answer = check_set(&index, &metadata, &sequence);
+        assert_eq!(answer.err().unwrap_or(0), base, "{name} {byte_order:?}");
         if let Ok(record) = answer {
             let [alphabet, count, residues, longest, of_name, of_accession, of_description] = row;
             let found = record.values();
             assert_eq!((found[0], found[2], found[3]), (MAGIC, alphabet, 0), "{name}");
+            let lengths = [of_name, of_accession, of_description, longest];
             assert_eq!(
                 found[4..],
-                [of_name, of_accession, of_description, longest, count, residues],
+                [&lengths[..], &[count, residues, byte_order.number()]].concat(),
                 "{name}"
             );
         }
@@ -46,21 +55,24 @@ fn real_sets_have_their_answers() {
 
 #[test]
 fn every_real_run_unpacks_to_its_line() {
-    for set in common::samples().sets.into_iter().filter(|set| !set.lines.is_empty()) {
-        let record = check_set(&set.index, &set.metadata, &set.sequence).unwrap();
+    for (set, byte_order) in real_sets().into_iter().filter(|(set, _)| !set.lines.is_empty()) {
+        let [index, metadata, sequence] = set.files_in(byte_order);
+        let record = check_set(&index, &metadata, &sequence).unwrap();
         let alphabet = Alphabet::of_number(record.alphabet).unwrap();
-        let packets = packets_of_bytes(&set.sequence[8..]);
+        let packets = packets_of_bytes(&sequence[8..], record.byte_order);
+        let look_up = |number: i128| lookup(record.count, record.byte_order, &index, number);
         assert_eq!(record.count, set.lines.len() as i128);
         for (number, line) in set.lines.iter().enumerate() {
-            let found = lookup(record.count, &set.index, number as i128).unwrap();
+            let found = look_up(number as i128).unwrap();
             let run = &packets[found.run.start as usize..(found.run.start + found.run.length) as usize];
             let mut output = vec![0; line.len()];
             assert_eq!(unpack(record.alphabet, run, &mut output).unwrap().residues, line.len() as i128);
             assert_eq!(alphabet.text_of(&output), *line, "{} {number}", set.name);
             let start = 8 + found.metadata.start as usize;
-            assert!(read_metadata(&set.metadata[start..start + found.metadata.length as usize]).is_some());
+            let bytes = &metadata[start..start + found.metadata.length as usize];
+            assert!(read_metadata(bytes, byte_order).is_some());
         }
-        assert_eq!(lookup(record.count, &set.index, record.count), Err(NO_SUCH_NUMBER));
+        assert_eq!(look_up(record.count), Err(NO_SUCH_NUMBER));
     }
 }
 
@@ -88,8 +100,31 @@ fn metadata_records_that_are_good_or_bad() {
         b"n\0a\0",
         b"name",
     ];
-    assert!(good.iter().all(|bytes| read_metadata(bytes).is_some()));
-    assert!(bad.iter().all(|bytes| read_metadata(bytes).is_none()));
+    assert!(good.iter().all(|bytes| read_metadata(bytes, ByteOrder::Little).is_some()));
+    assert!(bad.iter().all(|bytes| read_metadata(bytes, ByteOrder::Little).is_none()));
+}
+
+#[test]
+fn the_taxonomy_id_alone_has_a_byte_order() {
+    // Little-endian, big-endian: 1 and 2^24; 128 and -2^31; -129 and 2^31 - 1; -1; 0.
+    let ids: [(&[u8], bool, bool); 6] = [
+        (b"ab\0c\0d e\0\x01\0\0\0", true, true),
+        (b"ab\0c\0d e\0\x80\0\0\0", true, false),
+        (b"ab\0c\0d e\0\x7f\xff\xff\xff", false, true),
+        (b"ab\0c\0d e\0\xff\xff\xff\xff", true, true),
+        (b"ab\0c\0d e\0\0\0\0\0", false, false),
+        (b"ab\0c\0d e\0\xff\xff\xff\xfe", false, false),
+    ];
+    for (bytes, little, big) in ids {
+        assert_eq!(read_metadata(bytes, ByteOrder::Little).is_some(), little, "{bytes:?}");
+        assert_eq!(read_metadata(bytes, ByteOrder::Big).is_some(), big, "{bytes:?}");
+    }
+    let read = read_metadata(b"ab\0c\0d e\0\0\0\x25\x86", ByteOrder::Big).unwrap();
+    assert_eq!(
+        (&read.name[..], &read.accession[..], &read.description[..]),
+        (&b"ab"[..], &b"c"[..], &b"d e"[..])
+    );
+    assert_eq!(read.taxonomy_id, 9606);
 }
 
 #[test]
@@ -98,11 +133,13 @@ fn an_end_of_minus_one_before_another_passes_the_lookup() {
     for end in [-1i64, -1, 3, 2_147_483_646, 3, 2_147_483_647] {
         index.extend(end.to_le_bytes());
     }
-    assert_eq!(lookup(3, &index, 1).unwrap().values(), [0, 4, 0, 2_147_483_647]);
-    assert_eq!(lookup(3, &index, 0), Err(BAD_OFFSETS));
-    assert_eq!(lookup(3, &index, 2), Err(BAD_OFFSETS));
+    let look_up = |number: i128| lookup(3, ByteOrder::Little, &index, number);
+    assert_eq!(look_up(1).unwrap().values(), [0, 4, 0, 2_147_483_647]);
+    assert_eq!(look_up(0), Err(BAD_OFFSETS));
+    assert_eq!(look_up(2), Err(BAD_OFFSETS));
     let mut arguments = vec![Argument::Number(9); 8];
-    arguments.extend([Argument::Number(3), Argument::Number(9), Argument::Range(index), Argument::Number(1)]);
+    arguments.extend([Argument::Number(3), Argument::Number(9), Argument::Number(0)]);
+    arguments.extend([Argument::Range(index), Argument::Number(1)]);
     assert_eq!(line_of(&Call::new(LOOKUP, arguments)), "0 0 4 0 2147483647");
 }
 
@@ -113,7 +150,9 @@ fn number_22_comes_first_and_at_its_limit() {
     assert_eq!(check_set(&[], &large, &[]), Err(TOO_LARGE));
     assert_eq!(check_set(&[], &[], &large), Err(TOO_LARGE));
     assert_eq!(check_set(&large[1..], &large[1..], &large[1..]), Err(WRONG_MAGIC));
-    assert_eq!(lookup(134_217_729, &large, 0), Err(TOO_LARGE));
-    assert_eq!(lookup(134_217_729, &large[1..], 0), Err(OUT_OF_RANGE));
-    assert_eq!(lookup(134_217_728, &large[1..], 0), Err(ENDS_TOO_EARLY));
+    for byte_order in ByteOrder::BOTH {
+        assert_eq!(lookup(134_217_729, byte_order, &large, 0), Err(TOO_LARGE));
+        assert_eq!(lookup(134_217_729, byte_order, &large[1..], 0), Err(OUT_OF_RANGE));
+        assert_eq!(lookup(134_217_728, byte_order, &large[1..], 0), Err(ENDS_TOO_EARLY));
+    }
 }

@@ -34,7 +34,7 @@ numberOf R.BadProteinByte = 11
 numberOf R.BadAmbiguity = 12
 -- the output hasn't room, or the place lies beyond it
 numberOf R.NoRoom = 13
--- magic isn't 0xc4d3d1b1, read little-endian
+-- magic is neither 0xc4d3d1b1 nor 0xb1d1d3c4, read little-endian, or the files of a set differ in byte order
 numberOf R.WrongMagic = 14
 -- the three tags differ
 numberOf R.TagsDiffer = 15

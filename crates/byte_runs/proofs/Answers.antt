@@ -8,12 +8,13 @@ use borrow.Author.Tests.{le-leb, lt-leb, leb-true, eq-eqb, ne-eqb, eqb-true}
 use Rattle.laws.specs.Writing.{writtenAt}
 use Rattle.answers.specs.declared.Refusal.{Refusal}
 use Rattle.answers.specs.declared.Refusal.the-variants.{TooLarge, TooShort}
+use Rattle.fields.specs.declared.Order.{Order}
 use Rattle.packets.specs.Positions.{byteOf}
 use Rattle.packets.specs.Packing.{run}
 use Rattle.packets.specs.Runs.{unpacked}
 use Rattle.packets.specs.Reading.{runLength}
 use Rattle.packets.specs.declared.RunLength.the-variants.{NoRun}
-use Rattle.packets.specs.Bytes.{packetsOf, bytesOf}
+use Rattle.packets.specs.Bytes.{packetsBy, packetsOf, bytesOf}
 use Rattle.runs.specs.declared.PackAnswer.the-variants as Pack
 use Rattle.runs.specs.declared.UnpackAnswer.the-variants as Unpack
 use Rattle.runs.proofs.Answers.{MayUnpack, RunAnswer, may-unpack, unpacked-holds}
@@ -34,13 +35,13 @@ module _ (a : ℕ) (codes bytes : List ℕ) (place : ℕ) where
 -- ---- unpacking
 
 -- what reading bytes finds is what reading their packets finds
-pub read-fits : (a : ℕ) (bytes : List ℕ) → length bytes ≤ 2147483647 → runIn a bytes ≡ runLength a (packetsOf bytes)
+pub read-fits : (order : Order) (a : ℕ) (bytes : List ℕ) → length bytes ≤ 2147483647 → runIn order a bytes ≡ runLength a (packetsBy order bytes)
 unfolding runIn
-read-fits a bytes h = rw (le-leb (length bytes) 2147483647 h)
+read-fits order a bytes h = rw (le-leb (length bytes) 2147483647 h)
 
-pub read-large : (a : ℕ) (bytes : List ℕ) → 2147483647 < length bytes → NoRun ≡ runIn a bytes
+pub read-large : (order : Order) (a : ℕ) (bytes : List ℕ) → 2147483647 < length bytes → NoRun ≡ runIn order a bytes
 unfolding runIn
-read-large a bytes h = rw (lt-leb (length bytes) 2147483647 h)
+read-large order a bytes h = rw (lt-leb (length bytes) 2147483647 h)
 
 module _ (a : ℕ) (bytes : List ℕ) (room : ℕ) where
   pub unpack-bytes-large : 2147483647 < length bytes → unpackBytesAnswer a bytes room ≡ Unpack.Refused TooLarge

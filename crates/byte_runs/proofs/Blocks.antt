@@ -22,6 +22,7 @@ use Rattle.laws.proofs.Writing.{written-twice}
 use Rattle.fields.specs.Written.{littleBytes}
 use Rattle.fields.proofs.Laws.{length-little, word-bytes}
 use Rattle.residues.specs.Alphabets.{isAmino}
+use Rattle.fields.specs.Number.{little}
 use Rattle.packets.specs.Runs.{isFiveBit, codesIn, wellFormed, unpacked}
 use Rattle.packets.specs.Bytes.{packetsOf}
 use Rattle.packets.specs.Decoded.{codesFrom}
@@ -241,7 +242,7 @@ six-codes p e = eq-eqb (p / 2 ^ 30 % 2) 1 (omega (arith, codes-count p))
 -- block i of the bytes
 module _ (bytes : List ℕ) (i start : ℕ) (here : start ≡ 4 * (16 * i)) (room : 16 * i + 16 ≤ length bytes / 4) where
   block-at : (k : ℕ) → k < 16 → getD (packetsOf (drop start bytes)) k 0 ≡ getD (packetsOf bytes) (16 * i + k) 0
-  block-at k h = rw here (packets-from bytes (16 * i) k (omega arith))
+  block-at k h = rw here (packets-from little bytes (16 * i) k (omega arith))
 
   pub block-codes : codesFrom (packetsOf (drop start bytes)) 0 16 ≡ codesFrom (packetsOf bytes) (16 * i) 16
   block-codes = codes-same (packetsOf (drop start bytes)) (packetsOf bytes) 0 (16 * i) 16 (λ k h. rw (zero-add k) (block-at k h))

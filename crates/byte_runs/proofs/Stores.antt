@@ -8,30 +8,23 @@ use lib.ListN.{length, getD}
 use Rattle.laws.specs.Digits.{allBelow}
 use Rattle.laws.specs.Writing.{writtenAt}
 use Rattle.laws.proofs.Digits.{below-none, below-cons, below-parts}
-use Rattle.fields.specs.Number.{little, number, unsignedAt}
+use Rattle.fields.specs.declared.Order.{Order}
+use Rattle.fields.specs.Number.{little, number, bytesAt}
 use Rattle.fields.specs.Written.{littleBytes}
-use Rattle.fields.proofs.Laws.{unsigned-bytes, little-four}
+use Rattle.fields.proofs.Laws.{unsigned-bytes}
 use Rattle.packets.specs.Positions.{byteOf}
-use Rattle.packets.specs.Packing.{fourFrom}
-use Rattle.packets.specs.Bytes.{packetsOf, bytesOf}
+use Rattle.packets.specs.Bytes.{packetsBy, packetsOf, bytesOf}
 use Rattle.packets.proofs.Bytes.{packets-at, bytes-cons, bytes-none, packets-bytes}
 
 -- a place that fits is four times the packet's
 pub byte-is : (place bound : ℕ) → place < bound / 4 → bound ≤ 18446744073709551615 → byteOf 0 place ≡ 4 * place
 byte-is place bound h k = omega arith
 
--- the packet at a place
-pub packet-read : (bytes : List ℕ) (place : ℕ) → place < length bytes / 4 → length bytes ≤ 18446744073709551615
-    → unsignedAt little 4 bytes (byteOf 0 place) ≡ getD (packetsOf bytes) place 0
-packet-read bytes place h k = rw (byte-is place (length bytes) h k) (sym (packets-at bytes place h))
-
--- its four bytes, as the code adds them up
-pub packet-sum : (bytes : List ℕ) (place at : ℕ) → place < length bytes / 4 → length bytes ≤ 18446744073709551615 → at ≡ byteOf 0 place
-    → fourFrom bytes at ≡ getD (packetsOf bytes) place 0
-packet-sum bytes place at h k q =
-    let z : at + 0 ≡ at = omega arith in
-    little-four bytes at 0 (getD bytes at 0) (getD bytes (at + 1) 0) (getD bytes (at + 2) 0) (getD bytes (at + 3) 0) (rw z) refl refl refl
-    ∙ (sym (unsigned-bytes little 4 bytes at) ∙ (ap (λ (n : ℕ). unsignedAt little 4 bytes n) q ∙ packet-read bytes place h k))
+-- the packet at a place by the word of its bytes, in either byte order
+pub word-packet : (order : Order) (bytes : List ℕ) (place w : ℕ) → place < length bytes / 4 → littleBytes 4 w ≡ bytesAt 4 bytes (4 * place) 0
+    → number order (littleBytes 4 w) ≡ getD (packetsBy order bytes) place 0
+word-packet order bytes place w h e =
+    ap (number order) e ∙ (sym (unsigned-bytes order 4 bytes (4 * place)) ∙ sym (packets-at order bytes place h))
 
 -- a packet's bytes, written at its place
 pub packet-put : (p place at bound : ℕ) (out : List ℕ) → place < bound / 4 → bound ≤ 18446744073709551615 → at ≡ byteOf 0 place

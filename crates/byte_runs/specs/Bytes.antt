@@ -10,13 +10,14 @@ use Rattle.laws.specs.Writing.{writtenAt}
 use Rattle.answers.specs.Limits.{bytesFit}
 use Rattle.answers.specs.declared.Refusal.{Refusal}
 use Rattle.answers.specs.declared.Refusal.the-variants.{TooLarge, TooShort}
+use Rattle.fields.specs.declared.Order.{Order}
 use Rattle.packets.specs.Positions.{byteOf}
 use Rattle.packets.specs.Packing.{run}
 use Rattle.packets.specs.Runs.{unpacked}
 use Rattle.packets.specs.Reading.{runLength}
 use Rattle.packets.specs.declared.RunLength.{RunLength}
 use Rattle.packets.specs.declared.RunLength.the-variants.{NoRun}
-use Rattle.packets.specs.Bytes.{packetsOf, bytesOf}
+use Rattle.packets.specs.Bytes.{packetsBy, packetsOf, bytesOf}
 use Rattle.runs.specs.Answers.{packAnswer, ifPacked, runRules, unpackedBy, ifUnpacked}
 use Rattle.runs.specs.declared.PackAnswer.{PackAnswer}
 use Rattle.runs.specs.declared.UnpackAnswer.{UnpackAnswer}
@@ -30,9 +31,9 @@ unfoldable pub bytesAfter : ℕ → List ℕ → List ℕ → ℕ → List ℕ
 bytesAfter alphabet codes bytes place =
     ifPacked (packBytesAnswer alphabet codes bytes place) (writtenAt (byteOf 0 place) (bytesOf (run alphabet codes)) bytes) bytes
 
--- What reading bytes as a run finds. Bytes past the last whole packet are unused, and more bytes than a call takes are no run.
-unfoldable pub runIn : ℕ → List ℕ → RunLength
-runIn alphabet bytes = cond (bytesFit bytes) (runLength alphabet (packetsOf bytes)) NoRun
+-- What reading bytes as a run finds, in a byte order. Bytes past the last whole packet are unused, and more bytes than a call takes are no run.
+unfoldable pub runIn : Order → ℕ → List ℕ → RunLength
+runIn order alphabet bytes = cond (bytesFit bytes) (runLength alphabet (packetsBy order bytes)) NoRun
 
 -- The bytes are whole packets.
 abbrev pub wholePackets : List ℕ → Bool

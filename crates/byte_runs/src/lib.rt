@@ -6,6 +6,7 @@ mod unpacking;
 
 use answers::Checked;
 use answers::Refusal;
+use fields::Order;
 use packets::PacketPos;
 use packets::RunLength;
 pub use reading::read_run;
@@ -45,7 +46,7 @@ pub fn unpack_bytes_answer(alphabet: u32, bytes: &[u8], room: usize) -> UnpackAn
     if !residues::is_alphabet(alphabet) {
         return UnpackAnswer::Refused(Refusal::WrongKind);
     }
-    let RunLength::Residues(total) = read_run(alphabet, bytes) else {
+    let RunLength::Residues(total) = read_run(Order::Little, alphabet, bytes) else {
         return UnpackAnswer::Refused(Refusal::BadRun);
     };
     if room < total {

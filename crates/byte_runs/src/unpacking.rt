@@ -3,6 +3,7 @@
 use crate::bytes::packet_at;
 use crate::bytes::store;
 use crate::reading::five_bit_packets;
+use fields::Order;
 use packets::PacketPos;
 ghost use mathlib.Core.Path.{_≡_};
 ghost use mathlib.Core.Bool.{true, false, cond};
@@ -163,7 +164,7 @@ fn put_block(alphabet: u32, block: &[u8], out: &mut [u8], place: usize) -> usize
         put_sixes(block, out, place);
         return place + 96;
     }
-    if five_bit_packets(block, 16) == 0 {
+    if five_bit_packets(Order::Little, block, 16) == 0 {
         put_bases(block, out, place);
         return place + 240;
     }

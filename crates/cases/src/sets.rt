@@ -14,6 +14,7 @@ use crate::output::put_refusal;
 use dsqdata::LookupAnswer;
 use dsqdata::SetAnswer;
 use dsqdata::SetRecord;
+use fields::Order;
 
 // An answer's number and values.
 fn put_set_answer(answer: SetAnswer) {
@@ -31,6 +32,8 @@ fn put_set_answer(answer: SetAnswer) {
             put_next(set.longest_sequence);
             put_next(set.count);
             put_next(set.residues);
+            let order = set.order;
+            put_next(dsqdata::order_number(order));
         }
     }
 }
@@ -73,7 +76,15 @@ pub fn check_set() -> Stream {
     stream
 }
 
-// The ten fields of a record, and the last number taken.
+// The byte order that a number tells: 0 little-endian, any other big-endian.
+fn order_told(number: u64) -> Order {
+    if number == 0 {
+        return Order::Little;
+    }
+    Order::Big
+}
+
+// The ten fields and the byte order of a record, and the last number taken.
 struct TakenRecord {
     last: Taken,
     set: SetRecord,
@@ -90,6 +101,7 @@ fn take_record() -> TakenRecord {
     let longest = take_number(description);
     let count = take_number(longest);
     let residues = take_number(count);
+    let order = take_number(residues);
     let set = SetRecord {
         magic: narrow(magic.value),
         tag: narrow(tag.value),
@@ -101,11 +113,9 @@ fn take_record() -> TakenRecord {
         longest_sequence: longest.value,
         count: count.value,
         residues: residues.value,
+        order: order_told(order.value),
     };
-    TakenRecord {
-        last: residues,
-        set,
-    }
+    TakenRecord { last: order, set }
 }
 
 pub fn look_up() -> Stream {

@@ -17,6 +17,7 @@ use Rattle.answers.specs.declared.Refusal.{Refusal}
 use Rattle.answers.specs.declared.Refusal.the-variants as R
 use Rattle.answers.specs.declared.Checked.{Checked}
 use Rattle.answers.specs.declared.Checked.the-variants as Check
+use Rattle.fields.specs.declared.Order.{Order}
 use Rattle.packets.specs.Positions.{byteOf}
 use Rattle.packets.specs.Packing.{run}
 use Rattle.packets.specs.Runs.{unpacked}
@@ -264,8 +265,8 @@ module _ (alphabet : ℕ) where
       (unpack-answered answer, unpacked-kept answer (unpacked packets) out)
 
   -- `read_run`
-  pub read-run-call : (bytes : List ℕ) → Answered (runNumber (runIn alphabet bytes)) (runValues (runIn alphabet bytes))
-  read-run-call bytes = run-answered (runIn alphabet bytes)
+  pub read-run-call : (order : Order) (bytes : List ℕ) → Answered (runNumber (runIn order alphabet bytes)) (runValues (runIn order alphabet bytes))
+  read-run-call order bytes = run-answered (runIn order alphabet bytes)
 
   -- `unpack_bytes_answer`
   pub unpack-bytes-answer-call : (bytes : List ℕ) (room : ℕ) →
@@ -338,8 +339,9 @@ write-listing-call index sequence header = shown (listedAnswer index sequence he
 -- ---- sets
 
 -- `read_record`
-pub read-record-call : (file : List ℕ) (start end : ℕ) → Answered (textsNumber (textsIn file start end)) (textsValues (textsIn file start end))
-read-record-call file start end = texts-answered (textsIn file start end)
+pub read-record-call : (order : Order) (file : List ℕ) (start end : ℕ)
+    → Answered (textsNumber (textsIn order file start end)) (textsValues (textsIn order file start end))
+read-record-call order file start end = texts-answered (textsIn order file start end)
 
 -- `check_set`
 pub check-set-call : (index metadata sequence : List ℕ) →

@@ -10,6 +10,7 @@ use lib.ListN.{length, getD}
 use borrow.Author.Tests.{le-leb, leb-true}
 use Rattle.laws.specs.Writing.{writtenAt}
 use Rattle.answers.specs.declared.Checked.the-variants as Check
+use Rattle.fields.specs.declared.Order.{Order}
 use Rattle.residues.specs.Tables.{ambiguityCode, proteinCode}
 use Rattle.volume.specs.Index.{statedType, sequences}
 use Rattle.volume.specs.Tables.{sequenceStart, proteinLength, dnaEnd, dnaLength, sequenceLength}
@@ -23,7 +24,7 @@ use Rattle.sequence.specs.Sequence.{rangeEnd, decodeAnswer, decodeOutput, decod
 use Rattle.sequence.specs.Holds.{HasEntries, RangeHolds, SequenceHolds}
 use Rattle.sequence.proofs.Exact as Decoding
 use Rattle.sequence.proofs.Checked as Sequence
-use Rattle.dsqdata.specs.Header.{recordOf}
+use Rattle.dsqdata.specs.Header.{setOrder, recordOf}
 use Rattle.dsqdata.specs.Check.{setCheck, setNumber, setValues, setRecordValues}
 use Rattle.dsqdata.specs.Rules.{SetRules}
 use Rattle.dsqdata.proofs.SetRules.{zero-rules, rules-zero}
@@ -73,12 +74,14 @@ module _ (index sequence header : List ℕ) where
 
 -- ---- sets
 
--- The set check passes only sets of which the rules hold, and returns their record; and it passes those.
-pub set-passes-only : (index metadata sequence : List ℕ) → setNumber (setCheck index metadata sequence) ≡ 0 → SetRules index metadata sequence
+-- The set check passes only sets of which the rules hold in the byte order that the index shows; and it passes those of which they hold in
+-- an order, and returns their record in that order.
+pub set-passes-only : (index metadata sequence : List ℕ) → setNumber (setCheck index metadata sequence) ≡ 0
+    → SetRules (setOrder index) index metadata sequence
 set-passes-only index metadata sequence = zero-rules index metadata sequence
 
-pub set-passes : (index metadata sequence : List ℕ) → SetRules index metadata sequence
-    → (setNumber (setCheck index metadata sequence) ≡ 0) × (setValues (setCheck index metadata sequence) ≡ setRecordValues (recordOf index))
+pub set-passes : (index metadata sequence : List ℕ) (order : Order) → SetRules order index metadata sequence
+    → (setNumber (setCheck index metadata sequence) ≡ 0) × (setValues (setCheck index metadata sequence) ≡ setRecordValues (recordOf order index))
 set-passes index metadata sequence = rules-zero index metadata sequence
 
 -- ---- header records

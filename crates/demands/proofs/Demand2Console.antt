@@ -8,6 +8,7 @@ use lib.ListN.{length}
 use borrow.Author.Tests.{le-leb}
 use Rattle.laws.specs.Digits.{allBelow}
 use Rattle.laws.specs.Writing.{writtenAt}
+use Rattle.fields.specs.Number.{little}
 use Rattle.packets.specs.Packing.{run}
 use Rattle.packets.specs.Runs.{unpacked}
 use Rattle.packets.specs.Bytes.{packetsOf, bytesOf}
@@ -74,7 +75,7 @@ gull-unpack-pack bytes out results buffer place results′ b r small short h k k
     let whole = amino-bytes bytes (length out) b r in
     unpacks-packs (gullPackCall 3 results′) bytesOf buffer (length buffer / 4) place (gull-pack-laws results′ k′ 3 buffer short)
     (gullUnpackCall 3 results) FewBytes (gull-unpack-laws results k 3)
-    bytes out (r .inputSize, r .whole) (run-must 3 (packetsOf bytes) (length out) (r .run)) small (whole .0) (whole .1) (rw (length-packets bytes) h)
+    bytes out (r .inputSize, r .whole) (run-must 3 (packetsOf bytes) (length out) (r .run)) small (whole .0) (whole .1) (rw (length-packets little bytes) h)
 
 -- The residues of any well-formed run, packed into a buffer with room and unpacked again, come back: nucleic runs too.
 pub gull-unpack-again : (a : ℕ) (bytes out results buffer : List ℕ) (place : ℕ) (results′ again results″ : List ℕ) → UnpacksBytes a bytes (length out)

@@ -10,6 +10,7 @@ use lib.Seq.{take-at, drop-at, length-take-le}
 use Rattle.laws.specs.Digits.{allBelow}
 use Rattle.laws.specs.Writing.{writtenAt}
 use Rattle.residues.specs.Alphabets.{validCodes}
+use Rattle.fields.specs.Number.{little}
 use Rattle.packets.specs.Positions.{byteOf}
 use Rattle.packets.specs.Packing.{run}
 use Rattle.packets.specs.Runs.{wellFormed, unpacked}
@@ -220,7 +221,7 @@ unpack-pack-bytes bytes out buffer place b r small short h =
     let k = amino-bytes bytes (length out) b r in
     unpacks-packs (packBytesCall 3) bytesOf buffer (length buffer / 4) place (pack-bytes-laws 3 buffer short) (unpackBytesCall 3) FewBytes
     (unpack-bytes-laws 3)
-    bytes out (r .inputSize, r .whole) (run-must 3 (packetsOf bytes) (length out) (r .run)) small (k .0) (k .1) (rw (length-packets bytes) h)
+    bytes out (r .inputSize, r .whole) (run-must 3 (packetsOf bytes) (length out) (r .run)) small (k .0) (k .1) (rw (length-packets little bytes) h)
 
 -- The residues of any well-formed run come back.
 pub unpack-again-bytes : (a : ℕ) (bytes out buffer : List ℕ) (place : ℕ) (again : List ℕ) → UnpacksBytes a bytes (length out)

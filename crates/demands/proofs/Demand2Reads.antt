@@ -72,12 +72,12 @@ module _ (index : List ℕ) where
 -- ---- a lookup
 
 module _ (set : SetRecord) (index : List ℕ) (number : ℕ) where
-  -- A lookup answers 0 only where its rules hold, and gives the starts and lengths that the ends state; and it answers 0 there.
-  pub lookup-finds-only : lookupNumber (lookupOf set index number) ≡ 0 → LookupRules set index number × (lookupOf set index number ≡ foundAt index number)
+  -- A lookup answers 0 only where its rules hold, and gives the starts and lengths that the ends state in the record's byte order; and it answers 0 there.
+  pub lookup-finds-only : lookupNumber (lookupOf set index number) ≡ 0 → LookupRules set index number × (lookupOf set index number ≡ foundAt (set .order) index number)
   lookup-finds-only z = found (lookupOf set index number) refl z
     where
       found : (x : LookupAnswer) → lookupOf set index number ≡ x → lookupNumber x ≡ 0
-          → LookupRules set index number × (lookupOf set index number ≡ foundAt index number)
+          → LookupRules set index number × (lookupOf set index number ≡ foundAt (set .order) index number)
       found (Lookup.Found a b p c) e n = let w = found-rules set index number a b p c e in (w .0, e ∙ sym (w .1))
       found (Lookup.Refused r) e n = absurd (number-not-zero r n)
 

@@ -5,6 +5,7 @@ use mathlib.Core.List.{List}
 use Prim.Native.Nat.{ℕ, _<_}
 use lib.IntN.{ℤ}
 use lib.ListN.{length}
+use Rattle.fields.specs.declared.Order.{Order}
 use Rattle.packets.specs.Ends.{Makes}
 use Rattle.packets.proofs.Ends.{ends-unique}
 use Rattle.runs.specs.Bodies.{Item, body, sequencesOf, AllValid, AllValidIn, runEnds, Begins, Buffer, afterCalls, packedOf, Holds}
@@ -12,7 +13,7 @@ use Rattle.runs.proofs.Bodies.{body-prefix, body-injective, calls-body}
 use Rattle.runs.proofs.Making.{body-made}
 use Rattle.byte_runs.specs.Bodies.{ByteBuffer, afterByteCalls, bytesPackedOf, HoldsBytes}
 use Rattle.byte_runs.proofs.Bodies.{byte-calls-body}
-use Rattle.dsqdata.specs.Header.{alphabetOf, bodyOf}
+use Rattle.dsqdata.specs.Header.{setOrder, alphabetOf, bodyOf}
 use Rattle.dsqdata.specs.Ends.{packetEnds}
 use Rattle.dsqdata.specs.Check.{setCheck, setNumber}
 use Rattle.dsqdata.specs.Rules.{OtherRules}
@@ -61,22 +62,25 @@ body-has-ends alphabet sequences v =
     let made = body-made alphabet sequences v in
     (made, λ others m. ends-unique alphabet (body sequences) others (runEnds sequences) m made)
 
--- (d) A set passes exactly when its packet ends are such a list for its body and alphabet and it breaks no other rule.
-pub set-passes-only : (index metadata sequence : List ℕ) → setNumber (setCheck index metadata sequence) ≡ 0
-    → Makes (alphabetOf index) (bodyOf sequence) (packetEnds index) × OtherRules index metadata sequence
+-- (d) A set passes exactly when its packet ends are such a list for its body and alphabet and it breaks no other rule. Its body is its packets,
+-- its ends and its alphabet are numbers, all in the byte order of the set, whichever that is.
+pub set-passes-only : (index metadata sequence : List ℕ) →
+    let order = setOrder index in
+    setNumber (setCheck index metadata sequence) ≡ 0
+    → Makes (alphabetOf order index) (bodyOf order sequence) (packetEnds order index) × OtherRules order index metadata sequence
 set-passes-only = Set.passes-makes
 
-pub set-passes : (index metadata sequence : List ℕ) → Makes (alphabetOf index) (bodyOf sequence) (packetEnds index) → OtherRules index metadata sequence
-    → setNumber (setCheck index metadata sequence) ≡ 0
+pub set-passes : (index metadata sequence : List ℕ) (order : Order) → Makes (alphabetOf order index) (bodyOf order sequence) (packetEnds order index)
+    → OtherRules order index metadata sequence → setNumber (setCheck index metadata sequence) ≡ 0
 set-passes = Set.makes-passes
 
 -- (e) So an old index passes over a new body only if every run ends where it did: its packet ends are the one list that makes the new body well
--- formed in its alphabet, and those of every index that passes over that body, whatever its alphabet.
+-- formed in its alphabet, and those of every index that passes over that body, whatever its alphabet and its byte order.
 pub old-index-ends : (old metadata sequence : List ℕ) → setNumber (setCheck old metadata sequence) ≡ 0
-    → (ends : List ℤ) → Makes (alphabetOf old) (bodyOf sequence) ends → packetEnds old ≡ ends
+    → (ends : List ℤ) → Makes (alphabetOf (setOrder old) old) (bodyOf (setOrder old) sequence) ends → packetEnds (setOrder old) old ≡ ends
 old-index-ends = Set.passes-ends
 
 pub old-and-new-index : (old metadata sequence new metadata′ sequence′ : List ℕ) → setNumber (setCheck old metadata sequence) ≡ 0
-    → setNumber (setCheck new metadata′ sequence′) ≡ 0 → bodyOf sequence ≡ bodyOf sequence′
-    → packetEnds old ≡ packetEnds new
+    → setNumber (setCheck new metadata′ sequence′) ≡ 0 → bodyOf (setOrder old) sequence ≡ bodyOf (setOrder new) sequence′
+    → packetEnds (setOrder old) old ≡ packetEnds (setOrder new) new
 old-and-new-index = Set.old-index

@@ -14,3 +14,4 @@ pub mod Pages
 pub mod Nucleotides
 pub mod Identifiers
 pub mod Integers
+pub mod Turned

@@ -43,7 +43,7 @@ use Rattle.volume.specs.declared.VolumeAnswer.the-variants as Volume
 use Rattle.sequence.specs.Sequence.{decodeRules, decodeAnswer, decodeNumber}
 use Rattle.sequence.specs.declared.DecodeAnswer.the-variants as Decode
 use Rattle.listing.specs.Listing.{listingSizeRules, listedAnswer}
-use Rattle.dsqdata.specs.Header.{recordOf}
+use Rattle.dsqdata.specs.Header.{setOrder, recordOf}
 use Rattle.dsqdata.specs.Check.{setRules, setCheck, setNumber}
 use Rattle.dsqdata.specs.Lookup.{lookupRules, foundAt, lookupOf, lookupNumber}
 use Rattle.dsqdata.specs.declared.SetRecord.{SetRecord}
@@ -192,26 +192,26 @@ decode-order index sequence number room =
 
 -- ---- sets
 
-set-order : (index : List ℕ) (rules : List (Rule Refusal)) → Ordered Set.Refused setNumber rules (verdict Set.Refused (Set.Passed (recordOf index)) rules)
-set-order index rules = ordered Set.Refused setNumber (λ r. refl) (Set.Passed (recordOf index)) refl rules _ refl
+set-order : (index : List ℕ) (rules : List (Rule Refusal)) → Ordered Set.Refused setNumber rules (verdict Set.Refused (Set.Passed (recordOf (setOrder index) index)) rules)
+set-order index rules = ordered Set.Refused setNumber (λ r. refl) (Set.Passed (recordOf (setOrder index) index)) refl rules _ refl
 
 module _ (index metadata sequence : List ℕ) where
   -- `check_set`: 22; file by file 1, 14; 15; 3; flags 4; count 4; index short 1, long 6; body 1; ends 7; runs 17; metadata 19; totals 9
-  pub check-set-order : Ordered Set.Refused setNumber (setRules index metadata sequence) (setCheck index metadata sequence)
+  pub check-set-order : Ordered Set.Refused setNumber (setRules (setOrder index) index metadata sequence) (setCheck index metadata sequence)
   unfolding setCheck
-  check-set-order = set-order index (setRules index metadata sequence)
+  check-set-order = set-order index (setRules (setOrder index) index metadata sequence)
 
   -- `gull_time_check_set`: the same, then 13 for the results
   pub gull-time-check-set-order : (room : ℕ)
-      → Ordered Set.Refused setNumber (setRules index metadata sequence ++ resultsRule 10 room) (timedSet index metadata sequence room)
+      → Ordered Set.Refused setNumber (setRules (setOrder index) index metadata sequence ++ resultsRule 11 room) (timedSet index metadata sequence room)
   unfolding timedSet
-  gull-time-check-set-order room = set-order index (setRules index metadata sequence ++ resultsRule 10 room)
+  gull-time-check-set-order room = set-order index (setRules (setOrder index) index metadata sequence ++ resultsRule 11 room)
 
 -- `lookup`: 22; count 4; index short 1, long 6; 10; 7 for the metadata end and the packet end
 pub lookup-order : (set : SetRecord) (index : List ℕ) (number : ℕ)
     → Ordered Lookup.Refused lookupNumber (lookupRules set index number) (lookupOf set index number)
 unfolding lookupOf
-lookup-order set index number = ordered Lookup.Refused lookupNumber (λ r. refl) (foundAt index number) refl (lookupRules set index number) _ refl
+lookup-order set index number = ordered Lookup.Refused lookupNumber (λ r. refl) (foundAt (set .order) index number) refl (lookupRules set index number) _ refl
 
 -- ---- header records
 

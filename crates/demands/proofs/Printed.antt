@@ -12,6 +12,7 @@ use Rattle.laws.specs.Signed.{toNat}
 use Rattle.answers.specs.Numbers.{numberOf}
 use Rattle.answers.specs.declared.Refusal.{Refusal}
 use Rattle.answers.specs.declared.Refusal.the-variants.{BadHeader, TooDeep}
+use Rattle.fields.specs.declared.Order.{Order}
 use Rattle.runs.specs.Answers.{packRules, unpackRules}
 use Rattle.byte_runs.specs.Bytes.{unpackBytesRules}
 use Rattle.volume.specs.Index.{isProtein, indexRules, readRules}
@@ -124,35 +125,35 @@ fetch-page-numbers index sequence numbers ends = refl
 
 -- ---- sets
 
-module _ (index metadata sequence : List ℕ) where
-  file-numbers : numbersOf (fileRules index metadata sequence) ≡ 22 ∷ 22 ∷ 22 ∷ 1 ∷ 14 ∷ 1 ∷ 14 ∷ 1 ∷ 14 ∷ 15 ∷ 15 ∷ []
+module _ (order : Order) (index metadata sequence : List ℕ) where
+  file-numbers : numbersOf (fileRules order index metadata sequence) ≡ 22 ∷ 22 ∷ 22 ∷ 1 ∷ 14 ∷ 1 ∷ 14 ∷ 1 ∷ 14 ∷ 15 ∷ 15 ∷ []
   unfolding fileRules sizeRules startRules tagRules
   file-numbers = refl
 
-  layout-numbers : numbersOf (layoutRules index sequence) ≡ 3 ∷ 4 ∷ 4 ∷ 1 ∷ 6 ∷ 1 ∷ []
+  layout-numbers : numbersOf (layoutRules order index sequence) ≡ 3 ∷ 4 ∷ 4 ∷ 1 ∷ 6 ∷ 1 ∷ []
   unfolding layoutRules headerRules countRules bodyRules
   layout-numbers = refl
 
-  ends-numbers : (table n size : ℕ) → numbersOf (endsRules index table n size) ≡ 7 ∷ 7 ∷ []
+  ends-numbers : (table n size : ℕ) → numbersOf (endsRules order index table n size) ≡ 7 ∷ 7 ∷ []
   unfolding endsRules
   ends-numbers table n size = refl
 
-  run-numbers : numbersOf (setRunRules index sequence) ≡ replicate (countOf index) 17
+  run-numbers : numbersOf (setRunRules order index sequence) ≡ replicate (countOf order index) 17
   unfolding rulesOfRun
-  run-numbers = numbers-each _ 17 (λ k. refl) (countOf index)
+  run-numbers = numbers-each _ 17 (λ k. refl) (countOf order index)
 
-  record-numbers : numbersOf (recordRules index metadata) ≡ replicate (countOf index) 19
+  record-numbers : numbersOf (recordRules order index metadata) ≡ replicate (countOf order index) 19
   unfolding rulesOfRecord
-  record-numbers = numbers-each _ 19 (λ k. refl) (countOf index)
+  record-numbers = numbers-each _ 19 (λ k. refl) (countOf order index)
 
-  total-numbers : (residues longest : ℕ) → numbersOf (totalRules index metadata residues longest) ≡ 9 ∷ 9 ∷ 9 ∷ 9 ∷ 9 ∷ []
+  total-numbers : (residues longest : ℕ) → numbersOf (totalRules order index metadata residues longest) ≡ 9 ∷ 9 ∷ 9 ∷ 9 ∷ 9 ∷ []
   unfolding totalRules statedRules
   total-numbers residues longest = refl
 
   -- 22; file by file 1, 14; 15; 3; flags 4; count 4; index short 1, long 6; body 1; ends 7; 17 for each run; 19 for each record; 9
-  pub check-set-numbers : numbersOf (setRules index metadata sequence)
+  pub check-set-numbers : numbersOf (setRules order index metadata sequence)
       ≡ (22 ∷ 22 ∷ 22 ∷ 1 ∷ 14 ∷ 1 ∷ 14 ∷ 1 ∷ 14 ∷ 15 ∷ 15 ∷ 3 ∷ 4 ∷ 4 ∷ 1 ∷ 6 ∷ 1 ∷ 7 ∷ 7 ∷ 7 ∷ 7 ∷ [])
-      ++ (replicate (countOf index) 17 ++ (replicate (countOf index) 19 ++ (9 ∷ 9 ∷ 9 ∷ 9 ∷ 9 ∷ [])))
+      ++ (replicate (countOf order index) 17 ++ (replicate (countOf order index) 19 ++ (9 ∷ 9 ∷ 9 ∷ 9 ∷ 9 ∷ [])))
   unfolding setRules contentRules restRules behindRuns
   check-set-numbers =
       simp (numbers-append, file-numbers, layout-numbers, ends-numbers, run-numbers, record-numbers, total-numbers)

@@ -9,10 +9,11 @@ use lib.ListN.{length}
 use lib.Signed.{_<ℤ_}
 use Rattle.laws.specs.Places.{listTo}
 use Rattle.laws.specs.Rules.{AllHold}
+use Rattle.fields.specs.declared.Order.{Order}
 use Rattle.packets.specs.Runs.{wellFormed}
 use Rattle.packets.specs.Ends.{lastPlace, between, MakesAfter, Makes}
 use Rattle.packets.proofs.Ends.{ends-unique, ends-same}
-use Rattle.dsqdata.specs.Header.{alphabetOf, countOf, packetsIn, bodyOf}
+use Rattle.dsqdata.specs.Header.{setOrder, alphabetOf, countOf, packetsIn, bodyOf}
 use Rattle.dsqdata.specs.Ends.{packetTable, endBefore, packetEnds, runAt}
 use Rattle.dsqdata.specs.Check.{packetEndsRules, rulesOfRun, setRunRules, otherRules, setCheck, setNumber}
 use Rattle.dsqdata.specs.Rules.{EndsRule, OtherRules}
@@ -63,36 +64,36 @@ module _ (a : ℕ) (body : List ℕ) where
       second zero l x f = x
       second (suc k) l x f = f k (omega arith)
 
-module _ (i s : List ℕ) where
+module _ (order : Order) (i s : List ℕ) where
   -- The rules of the packet ends and of the runs together say that the packet ends make the body well formed.
-  pub rules-make : AllHold (packetEndsRules i s) → AllHold (setRunRules i s) → Makes (alphabetOf i) (bodyOf s) (packetEnds i)
+  pub rules-make : AllHold (packetEndsRules order i s) → AllHold (setRunRules order i s) → Makes (alphabetOf order i) (bodyOf order s) (packetEnds order i)
   unfolding runAt
   rules-make e b =
-      let r = ends-rule i packetTable (countOf i) (packetsIn s) e in
-      rw (end-zero i packetTable 0 refl) at
-      (between-makes (alphabetOf i) (bodyOf s) (endBefore i packetTable) (countOf i)
+      let r = ends-rule order i packetTable (countOf order i) (packetsIn s) e in
+      rw (end-zero order i packetTable 0 refl) at
+      (between-makes (alphabetOf order i) (bodyOf order s) (endBefore order i packetTable) (countOf order i)
       (record {
         rises = r .rises;
-        runs = λ k l. run-rule (alphabetOf i) (runAt i s k) (rules-at (λ j. rulesOfRun (alphabetOf i) (runAt i s j)) (countOf i) k l b);
-        last = rw (body-length s) (r .last);
+        runs = λ k l. run-rule (alphabetOf order i) (runAt order i s k) (rules-at (λ j. rulesOfRun (alphabetOf order i) (runAt order i s j)) (countOf order i) k l b);
+        last = rw (body-length order s) (r .last);
       }))
 
-  pub make-rules : Makes (alphabetOf i) (bodyOf s) (packetEnds i) → AllHold (packetEndsRules i s) × AllHold (setRunRules i s)
+  pub make-rules : Makes (alphabetOf order i) (bodyOf order s) (packetEnds order i) → AllHold (packetEndsRules order i s) × AllHold (setRunRules order i s)
   unfolding runAt
   make-rules h =
-      let b = makes-between (alphabetOf i) (bodyOf s) (endBefore i packetTable) (countOf i) (rw (end-zero i packetTable 0 refl) h) in (
-        rule-ends i packetTable (countOf i) (packetsIn s) (ends-from b),
-        rules-all (λ j. rulesOfRun (alphabetOf i) (runAt i s j)) (countOf i) (λ k l. rule-run (alphabetOf i) (runAt i s k) (b .runs k l)),
+      let b = makes-between (alphabetOf order i) (bodyOf order s) (endBefore order i packetTable) (countOf order i) (rw (end-zero order i packetTable 0 refl) h) in (
+        rule-ends order i packetTable (countOf order i) (packetsIn s) (ends-from b),
+        rules-all (λ j. rulesOfRun (alphabetOf order i) (runAt order i s j)) (countOf order i) (λ k l. rule-run (alphabetOf order i) (runAt order i s k) (b .runs k l)),
       )
     where
-      ends-from : Between (alphabetOf i) (bodyOf s) (endBefore i packetTable) (countOf i) → EndsRule i packetTable (countOf i) (packetsIn s)
+      ends-from : Between (alphabetOf order i) (bodyOf order s) (endBefore order i packetTable) (countOf order i) → EndsRule order i packetTable (countOf order i) (packetsIn s)
       ends-from b =
-          let e : endBefore i packetTable (countOf i) ≡ lastPlace (packetsIn s) = rw (body-length s) at (b .last) in
+          let e : endBefore order i packetTable (countOf order i) ≡ lastPlace (packetsIn s) = rw (body-length order s) at (b .last) in
           record {
-            first = end-zero i packetTable 0 refl;
+            first = end-zero order i packetTable 0 refl;
             rises = b .rises;
             last = e;
-            none = λ z. no-places (packetsIn s) (sym (end-zero i packetTable (countOf i) z) ∙ e);
+            none = λ z. no-places (packetsIn s) (sym (end-zero order i packetTable (countOf order i) z) ∙ e);
           }
         where
           no-places : (n : ℕ) → negsuc 0 ≡ lastPlace n → n ≡ 0
@@ -102,37 +103,43 @@ module _ (i s : List ℕ) where
 -- ---- demand 3, part (d)
 
 module _ (i m s : List ℕ) where
-  -- A set passes only if its packet ends make its body well formed in its alphabet and it breaks no other rule ..
-  pub passes-makes : setNumber (setCheck i m s) ≡ 0 → Makes (alphabetOf i) (bodyOf s) (packetEnds i) × OtherRules i m s
+  -- A set passes only if its packet ends make its body well formed in its alphabet and it breaks no other rule, in the order that its index shows ..
+  pub passes-makes : let order = setOrder i in
+      setNumber (setCheck i m s) ≡ 0 → Makes (alphabetOf order i) (bodyOf order s) (packetEnds order i) × OtherRules order i m s
   passes-makes h =
-      let p = parts-hold i m s (zero-all i m s h) in
-      (rules-make i s (p .1) (p .2), others-rule i m s (p .0))
+      let p = parts-hold (setOrder i) i m s (zero-all i m s h) in
+      (rules-make (setOrder i) i s (p .1) (p .2), others-rule (setOrder i) i m s (p .0))
 
-  -- .. and it passes if they do and it breaks none.
-  pub makes-passes : Makes (alphabetOf i) (bodyOf s) (packetEnds i) → OtherRules i m s → setNumber (setCheck i m s) ≡ 0
-  makes-passes h r =
-      let p = make-rules i s h in
-      all-zero i m s (hold-parts i m s (rule-others i m s r) (p .0) (p .1)) .0
+  -- .. and it passes if they do and it breaks none, in either order.
+  pub makes-passes : (order : Order) → Makes (alphabetOf order i) (bodyOf order s) (packetEnds order i) → OtherRules order i m s → setNumber (setCheck i m s) ≡ 0
+  makes-passes order h r =
+      let p = make-rules order i s h in
+      all-zero i m s order (hold-parts order i m s (rule-others order i m s r) (p .0) (p .1)) .0
 
   -- The same with the other rules as the check's list has them.
-  pub passes-list : setNumber (setCheck i m s) ≡ 0 → Makes (alphabetOf i) (bodyOf s) (packetEnds i) × AllHold (otherRules i m s)
+  pub passes-list : let order = setOrder i in
+      setNumber (setCheck i m s) ≡ 0 → Makes (alphabetOf order i) (bodyOf order s) (packetEnds order i) × AllHold (otherRules order i m s)
   passes-list h =
-      let p = parts-hold i m s (zero-all i m s h) in
-      (rules-make i s (p .1) (p .2), p .0)
+      let p = parts-hold (setOrder i) i m s (zero-all i m s h) in
+      (rules-make (setOrder i) i s (p .1) (p .2), p .0)
 
-  pub list-passes : Makes (alphabetOf i) (bodyOf s) (packetEnds i) → AllHold (otherRules i m s) → setNumber (setCheck i m s) ≡ 0
-  list-passes h r =
-      let p = make-rules i s h in
-      all-zero i m s (hold-parts i m s r (p .0) (p .1)) .0
+  pub list-passes : (order : Order) → Makes (alphabetOf order i) (bodyOf order s) (packetEnds order i) → AllHold (otherRules order i m s)
+      → setNumber (setCheck i m s) ≡ 0
+  list-passes order h r =
+      let p = make-rules order i s h in
+      all-zero i m s order (hold-parts order i m s r (p .0) (p .1)) .0
 
   -- ---- demand 3, part (e)
 
   -- An index passes over a body only if every run ends where the index says: ends that make the body well formed are the index's packet ends.
-  pub passes-ends : setNumber (setCheck i m s) ≡ 0 → (ends : List ℤ) → Makes (alphabetOf i) (bodyOf s) ends → packetEnds i ≡ ends
-  passes-ends h ends e = ends-unique (alphabetOf i) (bodyOf s) (packetEnds i) ends (passes-makes h .0) e
+  pub passes-ends : let order = setOrder i in
+      setNumber (setCheck i m s) ≡ 0 → (ends : List ℤ) → Makes (alphabetOf order i) (bodyOf order s) ends → packetEnds order i ≡ ends
+  passes-ends h ends e = ends-unique (alphabetOf (setOrder i) i) (bodyOf (setOrder i) s) (packetEnds (setOrder i) i) ends (passes-makes h .0) e
 
--- An old index passes over a new body only if every run ends where it did: it then has the packet ends of the new index, over which the same body passes.
+-- An old index passes over a new body only if every run ends where it did: it then has the packet ends of the new index, over which the same
+-- body passes, in whichever order each is written.
 pub old-index : (old m s new m′ s′ : List ℕ) → setNumber (setCheck old m s) ≡ 0 → setNumber (setCheck new m′ s′) ≡ 0
-    → bodyOf s ≡ bodyOf s′ → packetEnds old ≡ packetEnds new
+    → bodyOf (setOrder old) s ≡ bodyOf (setOrder new) s′ → packetEnds (setOrder old) old ≡ packetEnds (setOrder new) new
 old-index old m s new m′ s′ h g f =
-    ends-same (alphabetOf old) (alphabetOf new) (bodyOf s) (packetEnds old) (packetEnds new) (passes-makes old m s h .0) (rw f (passes-makes new m′ s′ g .0))
+    ends-same (alphabetOf (setOrder old) old) (alphabetOf (setOrder new) new) (bodyOf (setOrder old) s) (packetEnds (setOrder old) old)
+    (packetEnds (setOrder new) new) (passes-makes old m s h .0) (rw f (passes-makes new m′ s′ g .0))

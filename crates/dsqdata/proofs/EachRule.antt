@@ -1,5 +1,5 @@
 -- Rules that are asked number by number, as a loop that counts up asks them. Assumes nothing.
-use mathlib.Core.Path.{_≡_, sym, ap, _∙_}
+use mathlib.Core.Path.{_≡_, refl, sym, ap, _∙_}
 use mathlib.Core.Logic.{⊎-elim}
 use mathlib.Core.List.{List, [], _++_, append-assoc, append-nil}
 use Prim.Native.Nat.{ℕ, zero, suc, _+_, _≤_, _<_}
@@ -51,3 +51,8 @@ module _ (f : ℕ → List (Rule Refusal)) where
   pub rules-all : (n : ℕ) → ((k : ℕ) → k < n → AllHold (f k)) → AllHold (rulesTo f n)
   rules-all zero h = tt
   rules-all (suc n) h = hold-append (rulesTo f n) (f n) (rules-all n (λ k l. h k (omega arith))) (h n (omega arith))
+
+-- rules that are the same number by number
+pub rules-same : (f g : ℕ → List (Rule Refusal)) (n : ℕ) → ((k : ℕ) → k < n → f k ≡ g k) → rulesTo f n ≡ rulesTo g n
+rules-same f g zero h = refl
+rules-same f g (suc n) h = rw (rules-same f g n (λ k l. h k (omega arith)), h n (omega arith))

@@ -2,6 +2,7 @@ pub mod Chain
 pub mod Fields
 pub mod EachRule
 pub mod Named
+pub mod Orders
 pub mod Signs
 pub mod Bodies
 pub mod FileBodies
@@ -15,3 +16,5 @@ pub mod SetRules
 pub mod Demand
 pub mod LookupRules
 pub mod Totals
+pub mod ReadAlike
+pub mod Turned

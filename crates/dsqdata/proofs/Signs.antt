@@ -7,15 +7,12 @@ use lib.IntN.{ℤ, pos, negsuc, natAbs}
 use lib.Dec.{T, ltb, leb}
 use lib.Signed.{ltZ, leZ, mag, nonNeg}
 use borrow.Author.Tests.{ltb-true, ltb-false, le-leb, lt-leb}
-use mir.Syntax.{Width, w64}
+use mir.Syntax.{w64}
 use mir.Val.{Fits, SFits, toZ, ofZ, hbits}
 use mir.ValLaws.{toZ-ofZ}
+use Rattle.laws.proofs.Signed.{again}
 use Rattle.laws.proofs.Tests.{never, bool-cases}
 use Rattle.packets.specs.Ends.{after}
-
--- a signed result, as its bits are read again, at every width
-pub again : (w : Width) (z e : ℤ) → mag z < 2 ^ hbits w → z ≡ e → toZ w (ofZ w z) ≡ e
-again w z e h p = toZ-ofZ w z (record { sfits = h }) ∙ p
 
 -- the place after an end that was read
 pub after-again : (e z : ℤ) {r : ℕ} → r ≡ after (toZ w64 (ofZ w64 z)) → mag z < 2 ^ hbits w64 → z ≡ e → r ≡ after e

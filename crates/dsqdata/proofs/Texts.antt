@@ -8,6 +8,7 @@ use Rattle.laws.specs.Rules.{AllHold}
 use Rattle.answers.specs.Limits.{checkedBy}
 use Rattle.answers.specs.declared.Refusal.the-variants.{BadMetadata}
 use Rattle.answers.specs.declared.Checked.the-variants.{Refused}
+use Rattle.fields.specs.declared.Order.{Order}
 use Rattle.metadata.specs.declared.Texts.{Texts}
 use Rattle.metadata.specs.declared.Texts.the-variants.{Lengths, Bad}
 use Rattle.metadata.specs.Record.{textsIn, isGood, nameLength, accessionLength, descriptionLength}
@@ -16,11 +17,11 @@ use Rattle.dsqdata.specs.Records.{textsAt}
 use Rattle.dsqdata.specs.Check.{rulesOfRecord}
 
 -- a turn over the records: what it reads of number k, by the places of the record
-module _ (index metadata : List ℕ) (k : ℕ) {from to : ℕ} (e : from ≡ metadataStart index k) (f : to ≡ metadataStart index (suc k)) where
-  pub record-next : to ≡ metadataStart index (k + 1)
-  record-next = f ∙ ap (metadataStart index) (sym (add-one k))
+module _ (order : Order) (index metadata : List ℕ) (k : ℕ) {from to : ℕ} (e : from ≡ metadataStart order index k) (f : to ≡ metadataStart order index (suc k)) where
+  pub record-next : to ≡ metadataStart order index (k + 1)
+  record-next = f ∙ ap (metadataStart order index) (sym (add-one k))
 
-  pub record-read : {r x : Texts} → r ≡ textsIn metadata from to → r ≡ x → textsAt index metadata k ≡ x
+  pub record-read : {r x : Texts} → r ≡ textsIn order metadata from to → r ≡ x → textsAt order index metadata k ≡ x
   unfolding textsAt
   record-read q h = rw (← e, ← f) (sym q ∙ h)
 
@@ -37,11 +38,11 @@ module _ {m : Texts} {n a d : ℕ} (g : m ≡ Lengths n a d) where
   pub texts-description : d ≡ descriptionLength m
   texts-description = rw g
 
-module _ (index metadata : List ℕ) (k : ℕ) where
-  pub record-holds : {n a d : ℕ} → textsAt index metadata k ≡ Lengths n a d → AllHold (rulesOfRecord index metadata k)
+module _ (order : Order) (index metadata : List ℕ) (k : ℕ) where
+  pub record-holds : {n a d : ℕ} → textsAt order index metadata k ≡ Lengths n a d → AllHold (rulesOfRecord order index metadata k)
   unfolding rulesOfRecord
   record-holds g = (texts-good g, tt)
 
-  pub record-refused : textsAt index metadata k ≡ Bad → Refused BadMetadata ≡ checkedBy (rulesOfRecord index metadata k)
+  pub record-refused : textsAt order index metadata k ≡ Bad → Refused BadMetadata ≡ checkedBy (rulesOfRecord order index metadata k)
   unfolding rulesOfRecord
   record-refused g = rw g

@@ -11,13 +11,15 @@ use Rattle.answers.specs.Numbers.{numberOf}
 use Rattle.answers.specs.declared.Refusal.{Refusal}
 use Rattle.answers.specs.declared.Refusal.the-variants.{TooShort, WrongKind, OutOfRange, Leftover, BadOffsets, WrongTotals}
 use Rattle.answers.specs.declared.Refusal.the-variants.{WrongMagic, TagsDiffer, BadRun, BadMetadata, TooLarge}
+use Rattle.fields.specs.declared.Order.{Order}
+use Rattle.fields.specs.declared.Order.the-variants.{Big, Little}
 use Rattle.residues.specs.Alphabets.{isAlphabet}
 use Rattle.packets.specs.Runs.{wellFormed}
 use Rattle.metadata.specs.Record.{isGood}
 use Rattle.dsqdata.specs.declared.SetRecord.{SetRecord}
 use Rattle.dsqdata.specs.declared.SetAnswer.{SetAnswer}
 use Rattle.dsqdata.specs.declared.SetAnswer.the-variants.{Passed, Refused}
-use Rattle.dsqdata.specs.Header.{setMagic, magicOf, tagOf, alphabetOf, flagsOf, countOf, recordOf, bytesAfterHeader, packetsIn}
+use Rattle.dsqdata.specs.Header.{setMagic, setOrder, magicOf, tagOf, alphabetOf, flagsOf, countOf, recordOf, bytesAfterHeader, packetsIn}
 use Rattle.dsqdata.specs.Ends.{metadataTable, packetTable, risesAt, meetsEnd, runAt, residuesAt}
 use Rattle.dsqdata.specs.Records.{textsAt, nameAt, accessionAt, descriptionAt}
 
@@ -28,37 +30,39 @@ unfoldable pub sizeRules : List ℕ → List ℕ → List ℕ → List (Rule Ref
 sizeRules index metadata sequence =
     ask (bytesFit index) TooLarge ∷ ask (bytesFit metadata) TooLarge ∷ ask (bytesFit sequence) TooLarge ∷ []
 
--- A file has at least so many bytes (1), and begins with the magic (14).
-unfoldable pub startRules : ℕ → List ℕ → List (Rule Refusal)
-startRules least file =
-    ask (leb least (length file)) TooShort
-    ∷ ask (eqb (magicOf file) setMagic) WrongMagic
-    ∷ []
+module _ (order : Order) where
+  -- A file has at least so many bytes (1), and begins with the magic in the order of the set (14).
+  unfoldable pub startRules : ℕ → List ℕ → List (Rule Refusal)
+  startRules least file =
+      ask (leb least (length file)) TooShort
+      ∷ ask (eqb (magicOf order file) setMagic) WrongMagic
+      ∷ []
 
--- The three tags are the same (15).
-unfoldable pub tagRules : List ℕ → List ℕ → List ℕ → List (Rule Refusal)
-tagRules index metadata sequence =
-    ask (eqb (tagOf metadata) (tagOf index)) TagsDiffer
-    ∷ ask (eqb (tagOf sequence) (tagOf index)) TagsDiffer
-    ∷ []
+  -- The three tags are the same (15).
+  unfoldable pub tagRules : List ℕ → List ℕ → List ℕ → List (Rule Refusal)
+  tagRules index metadata sequence =
+      ask (eqb (tagOf order metadata) (tagOf order index)) TagsDiffer
+      ∷ ask (eqb (tagOf order sequence) (tagOf order index)) TagsDiffer
+      ∷ []
 
--- 22; then file by file, index, metadata, sequence: below 52, 8, 8 bytes (1), its magic (14); 15.
-unfoldable pub fileRules : List ℕ → List ℕ → List ℕ → List (Rule Refusal)
-fileRules index metadata sequence =
-    sizeRules index metadata sequence
-    ++ (startRules 52 index
-    ++ (startRules 8 metadata
-    ++ (startRules 8 sequence
-    ++ tagRules index metadata sequence)))
+  -- 22; then file by file, index, metadata, sequence: below 52, 8, 8 bytes (1), its magic (14); 15.
+  unfoldable pub fileRules : List ℕ → List ℕ → List ℕ → List (Rule Refusal)
+  fileRules index metadata sequence =
+      sizeRules index metadata sequence
+      ++ (startRules 52 index
+      ++ (startRules 8 metadata
+      ++ (startRules 8 sequence
+      ++ tagRules index metadata sequence)))
 
 -- ---- the header fields and the lengths that they state
 
--- The alphabet is 1, 2 or 3 (3); the flags are 0 (4).
-unfoldable pub headerRules : List ℕ → List (Rule Refusal)
-headerRules index =
-    ask (isAlphabet (alphabetOf index)) WrongKind
-    ∷ ask (eqb (flagsOf index) 0) OutOfRange
-    ∷ []
+module _ (order : Order) where
+  -- The alphabet is 1, 2 or 3 (3); the flags are 0 (4).
+  unfoldable pub headerRules : List ℕ → List (Rule Refusal)
+  headerRules index =
+      ask (isAlphabet (alphabetOf order index)) WrongKind
+      ∷ ask (eqb (flagsOf order index) 0) OutOfRange
+      ∷ []
 
 -- A count is at most 134,217,728 (4), and the index has its 52 bytes and 16 for each sequence: short 1, long 6.
 unfoldable pub countRules : ℕ → List ℕ → List (Rule Refusal)
@@ -72,28 +76,30 @@ countRules count index =
 unfoldable pub bodyRules : List ℕ → List (Rule Refusal)
 bodyRules sequence = ask (eqb (bytesAfterHeader sequence % 4) 0) TooShort ∷ []
 
--- 3; flags 4; count 4; index short 1, long 6; body not a multiple of 4 is 1.
-unfoldable pub layoutRules : List ℕ → List ℕ → List (Rule Refusal)
-layoutRules index sequence =
-    headerRules index
-    ++ (countRules (countOf index) index
-    ++ bodyRules sequence)
+module _ (order : Order) where
+  -- 3; flags 4; count 4; index short 1, long 6; body not a multiple of 4 is 1.
+  unfoldable pub layoutRules : List ℕ → List ℕ → List (Rule Refusal)
+  layoutRules index sequence =
+      headerRules order index
+      ++ (countRules (countOf order index) index
+      ++ bodyRules sequence)
 
 -- ---- the ends
 
--- Each end rises from -1 on, and the last is the body's last place (7).
-unfoldable pub endsRules : List ℕ → ℕ → ℕ → ℕ → List (Rule Refusal)
-endsRules index table n size =
-    ask (every (risesAt index table) n) BadOffsets
-    ∷ ask (meetsEnd index table n size) BadOffsets
-    ∷ []
+module _ (order : Order) where
+  -- Each end rises from -1 on, and the last is the body's last place (7).
+  unfoldable pub endsRules : List ℕ → ℕ → ℕ → ℕ → List (Rule Refusal)
+  endsRules index table n size =
+      ask (every (risesAt order index table) n) BadOffsets
+      ∷ ask (meetsEnd order index table n size) BadOffsets
+      ∷ []
 
--- The metadata ends go by bytes, the packet ends by packets.
-abbrev pub metadataEndsRules : List ℕ → List ℕ → List (Rule Refusal)
-metadataEndsRules index metadata = endsRules index metadataTable (countOf index) (bytesAfterHeader metadata)
+  -- The metadata ends go by bytes, the packet ends by packets.
+  abbrev pub metadataEndsRules : List ℕ → List ℕ → List (Rule Refusal)
+  metadataEndsRules index metadata = endsRules index metadataTable (countOf order index) (bytesAfterHeader metadata)
 
-abbrev pub packetEndsRules : List ℕ → List ℕ → List (Rule Refusal)
-packetEndsRules index sequence = endsRules index packetTable (countOf index) (packetsIn sequence)
+  abbrev pub packetEndsRules : List ℕ → List ℕ → List (Rule Refusal)
+  packetEndsRules index sequence = endsRules index packetTable (countOf order index) (packetsIn sequence)
 
 -- ---- the runs and the metadata records, one after another
 
@@ -106,19 +112,20 @@ rulesTo f (suc n) = rulesTo f n ++ f n
 unfoldable pub rulesOfRun : ℕ → List ℕ → List (Rule Refusal)
 rulesOfRun alphabet packets = ask (wellFormed alphabet packets) BadRun ∷ []
 
--- The rules of the first n runs between ends, run by run.
-abbrev pub runRulesTo : List ℕ → List ℕ → ℕ → ℕ → List (Rule Refusal)
-runRulesTo index sequence alphabet n = rulesTo (λ k. rulesOfRun alphabet (runAt index sequence k)) n
+module _ (order : Order) where
+  -- The rules of the first n runs between ends, run by run.
+  abbrev pub runRulesTo : List ℕ → List ℕ → ℕ → ℕ → List (Rule Refusal)
+  runRulesTo index sequence alphabet n = rulesTo (λ k. rulesOfRun alphabet (runAt order index sequence k)) n
 
-abbrev pub setRunRules : List ℕ → List ℕ → List (Rule Refusal)
-setRunRules index sequence = runRulesTo index sequence (alphabetOf index) (countOf index)
+  abbrev pub setRunRules : List ℕ → List ℕ → List (Rule Refusal)
+  setRunRules index sequence = runRulesTo index sequence (alphabetOf order index) (countOf order index)
 
--- What the set check asks of the metadata of one sequence: it is a metadata record (19).
-unfoldable pub rulesOfRecord : List ℕ → List ℕ → ℕ → List (Rule Refusal)
-rulesOfRecord index metadata k = ask (isGood (textsAt index metadata k)) BadMetadata ∷ []
+  -- What the set check asks of the metadata of one sequence: it is a metadata record (19).
+  unfoldable pub rulesOfRecord : List ℕ → List ℕ → ℕ → List (Rule Refusal)
+  rulesOfRecord index metadata k = ask (isGood (textsAt order index metadata k)) BadMetadata ∷ []
 
-abbrev pub recordRules : List ℕ → List ℕ → List (Rule Refusal)
-recordRules index metadata = rulesTo (rulesOfRecord index metadata) (countOf index)
+  abbrev pub recordRules : List ℕ → List ℕ → List (Rule Refusal)
+  recordRules index metadata = rulesTo (rulesOfRecord index metadata) (countOf order index)
 
 -- ---- the totals
 
@@ -132,54 +139,62 @@ statedRules set residues sequence name accession description =
     ∷ ask (eqb description (set .«longest_description»)) WrongTotals
     ∷ []
 
--- 9 where the runs have so many residues in all and the longest so many. A text's length is without its NUL; the longest is 0 with none.
-unfoldable pub totalRules : List ℕ → List ℕ → ℕ → ℕ → List (Rule Refusal)
-totalRules index metadata residues longest =
-    statedRules (recordOf index) residues longest
-    (largestTo (nameAt index metadata) (countOf index))
-    (largestTo (accessionAt index metadata) (countOf index))
-    (largestTo (descriptionAt index metadata) (countOf index))
+module _ (order : Order) where
+  -- 9 where the runs have so many residues in all and the longest so many. A text's length is without its NUL; the longest is 0 with none.
+  unfoldable pub totalRules : List ℕ → List ℕ → ℕ → ℕ → List (Rule Refusal)
+  totalRules index metadata residues longest =
+      statedRules (recordOf order index) residues longest
+      (largestTo (nameAt order index metadata) (countOf order index))
+      (largestTo (accessionAt order index metadata) (countOf order index))
+      (largestTo (descriptionAt order index metadata) (countOf order index))
 
--- Behind the runs, which have so many residues in all and in the longest: 19 for each record, and 9.
-unfoldable pub behindRuns : List ℕ → List ℕ → ℕ → ℕ → List (Rule Refusal)
-behindRuns index metadata residues longest =
-    recordRules index metadata
-    ++ totalRules index metadata residues longest
+  -- Behind the runs, which have so many residues in all and in the longest: 19 for each record, and 9.
+  unfoldable pub behindRuns : List ℕ → List ℕ → ℕ → ℕ → List (Rule Refusal)
+  behindRuns index metadata residues longest =
+      recordRules order index metadata
+      ++ totalRules index metadata residues longest
 
-unfoldable pub restRules : List ℕ → List ℕ → List ℕ → List (Rule Refusal)
-restRules index metadata sequence =
-    behindRuns index metadata (sumTo (residuesAt index sequence) (countOf index)) (largestTo (residuesAt index sequence) (countOf index))
+  unfoldable pub restRules : List ℕ → List ℕ → List ℕ → List (Rule Refusal)
+  restRules index metadata sequence =
+      behindRuns index metadata (sumTo (residuesAt order index sequence) (countOf order index)) (largestTo (residuesAt order index sequence) (countOf order index))
 
 -- ---- the whole
 
--- 7; then 17 for each run between ends, 19, and 9.
-unfoldable pub contentRules : List ℕ → List ℕ → List ℕ → List (Rule Refusal)
-contentRules index metadata sequence =
-    metadataEndsRules index metadata
-    ++ (packetEndsRules index sequence
-    ++ (setRunRules index sequence
-    ++ restRules index metadata sequence))
+module _ (order : Order) where
+  -- 7; then 17 for each run between ends, 19, and 9.
+  unfoldable pub contentRules : List ℕ → List ℕ → List ℕ → List (Rule Refusal)
+  contentRules index metadata sequence =
+      metadataEndsRules order index metadata
+      ++ (packetEndsRules order index sequence
+      ++ (setRunRules order index sequence
+      ++ restRules order index metadata sequence))
 
--- All rules of the set check.
-unfoldable pub setRules : List ℕ → List ℕ → List ℕ → List (Rule Refusal)
-setRules index metadata sequence =
-    fileRules index metadata sequence
-    ++ (layoutRules index sequence
-    ++ contentRules index metadata sequence)
+  -- All rules of the set check.
+  unfoldable pub setRules : List ℕ → List ℕ → List ℕ → List (Rule Refusal)
+  setRules index metadata sequence =
+      fileRules order index metadata sequence
+      ++ (layoutRules order index sequence
+      ++ contentRules index metadata sequence)
 
--- The other rules of demand 3: all that the check asks except 7 for the packet ends and 17.
-unfoldable pub otherRules : List ℕ → List ℕ → List ℕ → List (Rule Refusal)
-otherRules index metadata sequence =
-    fileRules index metadata sequence
-    ++ (layoutRules index sequence
-    ++ (metadataEndsRules index metadata
-    ++ restRules index metadata sequence))
+  -- The other rules of demand 3: all that the check asks except 7 for the packet ends and 17.
+  unfoldable pub otherRules : List ℕ → List ℕ → List ℕ → List (Rule Refusal)
+  otherRules index metadata sequence =
+      fileRules order index metadata sequence
+      ++ (layoutRules order index sequence
+      ++ (metadataEndsRules order index metadata
+      ++ restRules order index metadata sequence))
 
--- The answer of the set check: passing returns the set's record.
+-- The answer of the set check, in the byte order that the index shows: passing returns the set's record.
 unfoldable pub setCheck : List ℕ → List ℕ → List ℕ → SetAnswer
-setCheck index metadata sequence = verdict Refused (Passed (recordOf index)) (setRules index metadata sequence)
+setCheck index metadata sequence =
+    verdict Refused (Passed (recordOf (setOrder index) index)) (setRules (setOrder index) index metadata sequence)
 
--- Document 01's number of an answer, and its values: the ten header fields in file order.
+-- The number of a byte order among the values of an answer.
+abbrev pub orderNumber : Order → ℕ
+orderNumber Little = 0
+orderNumber Big = 1
+
+-- Document 01's number of an answer, and its values: the ten header fields in file order, and the byte order.
 abbrev pub setNumber : SetAnswer → ℕ
 setNumber (Passed set) = 0
 setNumber (Refused r) = numberOf r
@@ -196,6 +211,7 @@ setRecordValues set =
     ∷ set .«longest_sequence»
     ∷ set .count
     ∷ set .residues
+    ∷ orderNumber (set .order)
     ∷ []
 
 abbrev pub setValues : SetAnswer → List ℕ

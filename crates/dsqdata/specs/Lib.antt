@@ -5,3 +5,4 @@ pub mod Check
 pub mod Scans
 pub mod Lookup
 pub mod Rules
+pub mod Turned

@@ -1,8 +1,8 @@
 // The ends of a set's metadata records and runs, which the index has in two tables: per sequence, the metadata's and then the packets'.
 // Ends count after the header of their file, those of metadata in bytes and those of packets in packets; so do the places made from them.
-use crate::header::signed8;
 use answers::Checked;
 use answers::Refusal;
+use fields::Order;
 use packets::BytePos;
 use packets::PacketPos;
 ghost use mathlib.Core.Path.{_≡_};
@@ -21,22 +21,22 @@ pub(crate) const PACKET_TABLE: usize = 60;
 pub(crate) const ENDS: usize = 16;
 
 // The end of number k of a table.
-fn end_of(index: &[u8], table: usize, k: usize) -> i64
+fn end_of(order: Order, index: &[u8], table: usize, k: usize) -> i64
     requires { ⌜ (table ≤ 60) × (k < 134217728) ⌝ }
-    ensures { λ r. ⌜ r ≡ endBefore (now (index .entry)) table (suc k) ⌝ }
+    ensures { λ r. ⌜ r ≡ endBefore order (now (index .entry)) table (suc k) ⌝ }
 {
-    signed8(index, table + ENDS * k)
+    fields::i64_at(order, index, table + ENDS * k)
 }
 
 // The end before number k of a table; before the first stands -1.
-fn end_before(index: &[u8], table: usize, k: usize) -> i64
+fn end_before(order: Order, index: &[u8], table: usize, k: usize) -> i64
     requires { ⌜ (table ≤ 60) × (k < 134217728) ⌝ }
-    ensures { λ r. ⌜ r ≡ endBefore (now (index .entry)) table k ⌝ }
+    ensures { λ r. ⌜ r ≡ endBefore order (now (index .entry)) table k ⌝ }
 {
     if k == 0 {
         return -1;
     }
-    end_of(index, table, k - 1)
+    end_of(order, index, table, k - 1)
 }
 
 // How many bytes or packets there are up to an end and with it.
@@ -51,46 +51,46 @@ fn count_to(end: i64) -> u64
 }
 
 // The byte where the metadata of number k begins, and the byte behind it.
-pub(crate) fn metadata_start(index: &[u8], k: usize) -> BytePos
+pub(crate) fn metadata_start(order: Order, index: &[u8], k: usize) -> BytePos
     requires { ⌜ k < 134217728 ⌝ }
-    ensures { λ r. ⌜ r .0 ≡ startAt (now (index .entry)) metadataTable k ⌝ }
+    ensures { λ r. ⌜ r .0 ≡ startAt order (now (index .entry)) metadataTable k ⌝ }
 {
-    BytePos(count_to(end_before(index, METADATA_TABLE, k)))
+    BytePos(count_to(end_before(order, index, METADATA_TABLE, k)))
 }
 
-pub(crate) fn metadata_end(index: &[u8], k: usize) -> BytePos
+pub(crate) fn metadata_end(order: Order, index: &[u8], k: usize) -> BytePos
     requires { ⌜ k < 134217728 ⌝ }
-    ensures value { λ r. ⌜ r .0 ≡ startAt (now (index .entry)) metadataTable (suc k) ⌝ }
+    ensures value { λ r. ⌜ r .0 ≡ startAt order (now (index .entry)) metadataTable (suc k) ⌝ }
     ensures most { λ r. ⌜ r .0 ≤ 9223372036854775808 ⌝ }
 {
-    BytePos(count_to(end_of(index, METADATA_TABLE, k)))
+    BytePos(count_to(end_of(order, index, METADATA_TABLE, k)))
 }
 
 // The packet where the run of number k begins, and the packet behind it.
-pub(crate) fn run_start(index: &[u8], k: usize) -> PacketPos
+pub(crate) fn run_start(order: Order, index: &[u8], k: usize) -> PacketPos
     requires { ⌜ k < 134217728 ⌝ }
-    ensures { λ r. ⌜ r .0 ≡ startAt (now (index .entry)) packetTable k ⌝ }
+    ensures { λ r. ⌜ r .0 ≡ startAt order (now (index .entry)) packetTable k ⌝ }
 {
-    PacketPos(count_to(end_before(index, PACKET_TABLE, k)))
+    PacketPos(count_to(end_before(order, index, PACKET_TABLE, k)))
 }
 
-pub(crate) fn run_end(index: &[u8], k: usize) -> PacketPos
+pub(crate) fn run_end(order: Order, index: &[u8], k: usize) -> PacketPos
     requires { ⌜ k < 134217728 ⌝ }
-    ensures { λ r. ⌜ r .0 ≡ startAt (now (index .entry)) packetTable (suc k) ⌝ }
+    ensures { λ r. ⌜ r .0 ≡ startAt order (now (index .entry)) packetTable (suc k) ⌝ }
 {
-    PacketPos(count_to(end_of(index, PACKET_TABLE, k)))
+    PacketPos(count_to(end_of(order, index, PACKET_TABLE, k)))
 }
 
 // The rules of a table of n ends over a body of `size` bytes or packets.
-pub(crate) fn check_ends(index: &[u8], table: usize, n: usize, size: usize) -> Checked
+pub(crate) fn check_ends(order: Order, index: &[u8], table: usize, n: usize, size: usize) -> Checked
     requires { ⌜ (table ≤ 60) × (n ≤ 134217728) ⌝ }
-    ensures { λ r. ⌜ r ≡ checkedBy (endsRules (now (index .entry)) table n size) ⌝ }
+    ensures { λ r. ⌜ r ≡ checkedBy (endsRules order (now (index .entry)) table n size) ⌝ }
 {
     let mut before: i64 = -1;
     let mut k: usize = 0;
     while k < n {
         // Read in place and not by `end_of`, so that no turn has a call.
-        let end = signed8(index, table + ENDS * k);
+        let end = fields::i64_at(order, index, table + ENDS * k);
         if !(before < end) {
             return Checked::Refused(Refusal::BadOffsets);
         }
@@ -104,12 +104,12 @@ pub(crate) fn check_ends(index: &[u8], table: usize, n: usize, size: usize) -> C
 }
 
 // The rules that a lookup asks of the end of number k of a table and of the one before it.
-pub(crate) fn check_part(index: &[u8], table: usize, k: usize) -> Checked
+pub(crate) fn check_part(order: Order, index: &[u8], table: usize, k: usize) -> Checked
     requires { ⌜ (table ≤ 60) × (k < 134217728) ⌝ }
-    ensures { λ r. ⌜ r ≡ checkedBy (partRules (now (index .entry)) table k) ⌝ }
+    ensures { λ r. ⌜ r ≡ checkedBy (partRules order (now (index .entry)) table k) ⌝ }
 {
-    let before = end_before(index, table, k);
-    let end = end_of(index, table, k);
+    let before = end_before(order, index, table, k);
+    let end = end_of(order, index, table, k);
     if before < -1 {
         return Checked::Refused(Refusal::BadOffsets);
     }

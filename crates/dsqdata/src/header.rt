@@ -4,10 +4,10 @@ use crate::ends::ENDS;
 use answers::Checked;
 use answers::MOST_BYTES;
 use answers::Refusal;
+use fields::Order;
 ghost use mathlib.Core.Path.{_≡_};
 ghost use Rattle.answers.specs.Limits.{checkedBy};
-ghost use Rattle.metadata.specs.Fields.{setField, setSigned};
-ghost use Rattle.dsqdata.specs.Header.{recordOf, bytesAfterHeader};
+ghost use Rattle.dsqdata.specs.Header.{setOrder, recordOf, bytesAfterHeader};
 ghost use Rattle.dsqdata.specs.Check.{sizeRules, startRules, tagRules, fileRules, countRules, layoutRules};
 
 // The most sequences of a set.
@@ -18,45 +18,35 @@ const INDEX_HEADER: usize = 52;
 
 pub(crate) const FILE_HEADER: usize = 8;
 
-// What every file of a set begins with.
+// What every file of a set begins with, in its byte order.
 const MAGIC: u32 = 0xc4d3d1b1;
 
-// The unsigned field of four bytes at a place.
-pub(crate) fn field4(file: &[u8], at: usize) -> u32
-    ensures { λ r. ⌜ r ≡ setField 4 (now (file .entry)) at ⌝ }
+// The byte order of a set, by its index.
+pub(crate) fn order_of(index: &[u8]) -> Order
+    ensures { λ r. ⌜ r ≡ setOrder (now (index .entry)) ⌝ }
 {
-    fields::le_u32(file, at)
+    if fields::be_u32(index, 0) == MAGIC {
+        return Order::Big;
+    }
+    Order::Little
 }
 
-// The unsigned field of eight bytes at a place.
-pub(crate) fn field8(file: &[u8], at: usize) -> u64
-    ensures { λ r. ⌜ r ≡ setField 8 (now (file .entry)) at ⌝ }
-{
-    fields::le_u64(file, at)
-}
-
-// The signed field of eight bytes at a place.
-pub(crate) fn signed8(file: &[u8], at: usize) -> i64
-    ensures { λ r. ⌜ r ≡ setSigned 8 (now (file .entry)) at ⌝ }
-{
-    fields::le_i64(file, at)
-}
-
-// All ten header fields of an index.
-pub(crate) fn read_record(index: &[u8]) -> SetRecord
-    ensures { λ r. ⌜ r ≡ recordOf (now (index .entry)) ⌝ }
+// All ten header fields of an index, in an order.
+pub(crate) fn read_record(order: Order, index: &[u8]) -> SetRecord
+    ensures { λ r. ⌜ r ≡ recordOf order (now (index .entry)) ⌝ }
 {
     SetRecord {
-        magic: field4(index, 0),
-        tag: field4(index, 4),
-        alphabet: field4(index, 8),
-        flags: field4(index, 12),
-        longest_name: field4(index, 16),
-        longest_accession: field4(index, 20),
-        longest_description: field4(index, 24),
-        longest_sequence: field8(index, 28),
-        count: field8(index, 36),
-        residues: field8(index, 44),
+        magic: fields::u32_at(order, index, 0),
+        tag: fields::u32_at(order, index, 4),
+        alphabet: fields::u32_at(order, index, 8),
+        flags: fields::u32_at(order, index, 12),
+        longest_name: fields::u32_at(order, index, 16),
+        longest_accession: fields::u32_at(order, index, 20),
+        longest_description: fields::u32_at(order, index, 24),
+        longest_sequence: fields::u64_at(order, index, 28),
+        count: fields::u64_at(order, index, 36),
+        residues: fields::u64_at(order, index, 44),
+        order,
     }
 }
 
@@ -87,53 +77,53 @@ fn check_sizes(index: &[u8], metadata: &[u8], sequence: &[u8]) -> Checked
 }
 
 // The rules of a file's start: its least size and its magic.
-fn check_start(file: &[u8], least: usize) -> Checked
-    ensures { λ r. ⌜ r ≡ checkedBy (startRules least (now (file .entry))) ⌝ }
+fn check_start(order: Order, file: &[u8], least: usize) -> Checked
+    ensures { λ r. ⌜ r ≡ checkedBy (startRules order least (now (file .entry))) ⌝ }
 {
     if file.len() < least {
         return Checked::Refused(Refusal::TooShort);
     }
-    if field4(file, 0) != MAGIC {
+    if fields::u32_at(order, file, 0) != MAGIC {
         return Checked::Refused(Refusal::WrongMagic);
     }
     Checked::Passed
 }
 
 // The rule of the three tags.
-fn check_tags(index: &[u8], metadata: &[u8], sequence: &[u8]) -> Checked
-    ensures { λ r. ⌜ r ≡ checkedBy (tagRules (now (index .entry)) (now (metadata .entry)) (now (sequence .entry))) ⌝ }
+fn check_tags(order: Order, index: &[u8], metadata: &[u8], sequence: &[u8]) -> Checked
+    ensures { λ r. ⌜ r ≡ checkedBy (tagRules order (now (index .entry)) (now (metadata .entry)) (now (sequence .entry))) ⌝ }
 {
-    let tag = field4(index, 4);
-    if field4(metadata, 4) != tag {
+    let tag = fields::u32_at(order, index, 4);
+    if fields::u32_at(order, metadata, 4) != tag {
         return Checked::Refused(Refusal::TagsDiffer);
     }
-    if field4(sequence, 4) != tag {
+    if fields::u32_at(order, sequence, 4) != tag {
         return Checked::Refused(Refusal::TagsDiffer);
     }
     Checked::Passed
 }
 
 // The rules of the files: sizes; then file by file; tags.
-pub(crate) fn check_files(index: &[u8], metadata: &[u8], sequence: &[u8]) -> Checked
-    ensures { λ r. ⌜ r ≡ checkedBy (fileRules (now (index .entry)) (now (metadata .entry)) (now (sequence .entry))) ⌝ }
+pub(crate) fn check_files(order: Order, index: &[u8], metadata: &[u8], sequence: &[u8]) -> Checked
+    ensures { λ r. ⌜ r ≡ checkedBy (fileRules order (now (index .entry)) (now (metadata .entry)) (now (sequence .entry))) ⌝ }
 {
     let sizes = check_sizes(index, metadata, sequence);
     if let Checked::Refused(r) = sizes {
         return Checked::Refused(r);
     }
-    let first = check_start(index, INDEX_HEADER);
+    let first = check_start(order, index, INDEX_HEADER);
     if let Checked::Refused(r) = first {
         return Checked::Refused(r);
     }
-    let second = check_start(metadata, FILE_HEADER);
+    let second = check_start(order, metadata, FILE_HEADER);
     if let Checked::Refused(r) = second {
         return Checked::Refused(r);
     }
-    let third = check_start(sequence, FILE_HEADER);
+    let third = check_start(order, sequence, FILE_HEADER);
     if let Checked::Refused(r) = third {
         return Checked::Refused(r);
     }
-    check_tags(index, metadata, sequence)
+    check_tags(order, index, metadata, sequence)
 }
 
 // The rules of a count, and of the index length against it.
@@ -154,9 +144,9 @@ pub(crate) fn check_count(index: &[u8], count: u64) -> Checked
 }
 
 // The rules of the header fields and of the lengths that they state.
-pub(crate) fn check_layout(index: &[u8], sequence: &[u8], set: SetRecord) -> Checked
-    requires { ⌜ set ≡ recordOf (now index) ⌝ }
-    ensures { λ r. ⌜ r ≡ checkedBy (layoutRules (now (index .entry)) (now (sequence .entry))) ⌝ }
+pub(crate) fn check_layout(order: Order, index: &[u8], sequence: &[u8], set: SetRecord) -> Checked
+    requires { ⌜ set ≡ recordOf order (now index) ⌝ }
+    ensures { λ r. ⌜ r ≡ checkedBy (layoutRules order (now (index .entry)) (now (sequence .entry))) ⌝ }
 {
     if !residues::is_alphabet(set.alphabet) {
         return Checked::Refused(Refusal::WrongKind);

@@ -5,6 +5,7 @@ use crate::header::FILE_HEADER;
 use crate::set_runs::larger;
 use answers::Checked;
 use answers::Refusal;
+use fields::Order;
 use metadata::Texts;
 use packets::BytePos;
 ghost use mathlib.Core.Path.{_≡_};
@@ -26,17 +27,17 @@ pub(crate) enum Records {
 }
 
 // The byte of the metadata file behind the record of number k.
-fn record_end(index: &[u8], k: usize) -> BytePos
+fn record_end(order: Order, index: &[u8], k: usize) -> BytePos
     requires { ⌜ k < 134217728 ⌝ }
-    ensures { λ r. ⌜ r .0 ≡ metadataStart (now (index .entry)) (suc k) ⌝ }
+    ensures { λ r. ⌜ r .0 ≡ metadataStart order (now (index .entry)) (suc k) ⌝ }
 {
-    BytePos(FILE_HEADER as u64 + metadata_end(index, k).0)
+    BytePos(FILE_HEADER as u64 + metadata_end(order, index, k).0)
 }
 
 // Reads all metadata records between the metadata ends.
-fn check_records(index: &[u8], metadata: &[u8], n: usize) -> Records
+fn check_records(order: Order, index: &[u8], metadata: &[u8], n: usize) -> Records
     requires { ⌜ n ≤ 134217728 ⌝ }
-    ensures { λ r. ⌜ r ≡ recordsTo (now (index .entry)) (now (metadata .entry)) n ⌝ }
+    ensures { λ r. ⌜ r ≡ recordsTo order (now (index .entry)) (now (metadata .entry)) n ⌝ }
 {
     let mut name: usize = 0;
     let mut accession: usize = 0;
@@ -44,12 +45,12 @@ fn check_records(index: &[u8], metadata: &[u8], n: usize) -> Records
     let mut from = BytePos(FILE_HEADER as u64);
     let mut k: usize = 0;
     while k < n {
-        let to = record_end(index, k);
+        let to = record_end(order, index, k);
         let Texts::Lengths {
             name: a,
             accession: b,
             description: d,
-        } = metadata::read_record(metadata, from, to)
+        } = metadata::read_record(order, metadata, from, to)
         else {
             return Records::Refused(Refusal::BadMetadata);
         };
@@ -97,16 +98,17 @@ fn check_totals(
 
 // The rules behind the runs, which have so many residues in all and in the longest.
 pub(crate) fn check_rest(
+    order: Order,
     index: &[u8],
     metadata: &[u8],
     set: SetRecord,
     residues: usize,
     longest: usize,
 ) -> Checked
-    requires { ⌜ (set ≡ recordOf (now index)) × (countOf (now index) ≤ 134217728) ⌝ }
-    ensures { λ r. ⌜ r ≡ checkedBy (behindRuns (now (index .entry)) (now (metadata .entry)) residues longest) ⌝ }
+    requires { ⌜ (set ≡ recordOf order (now index)) × (countOf order (now index) ≤ 134217728) ⌝ }
+    ensures { λ r. ⌜ r ≡ checkedBy (behindRuns order (now (index .entry)) (now (metadata .entry)) residues longest) ⌝ }
 {
-    let records = check_records(index, metadata, set.count as usize);
+    let records = check_records(order, index, metadata, set.count as usize);
     match records {
         Records::Refused(r) => Checked::Refused(r),
         Records::Longest {

@@ -21,7 +21,9 @@ use Rattle.laws.specs.Writing.{writtenAt}
 use Rattle.laws.proofs.Digits.{length-digits, value-digits}
 use Rattle.laws.proofs.Tests.{bool-cases}
 use Rattle.laws.proofs.Writing.{length-written}
-use Rattle.fields.specs.Number.{Order, big, little, number, bytesAt, unsignedAt, signed, signedAt}
+use Rattle.fields.specs.declared.Order.{Order}
+use Rattle.fields.specs.declared.Order.the-variants.{Big, Little}
+use Rattle.fields.specs.Number.{big, little, number, bytesAt, unsignedAt, signed, signedAt}
 use Rattle.fields.specs.Written.{littleBytes, numberBytes, numberPut}
 
 pub unsigned-bytes : (order : Order) (w : ℕ) (file : List ℕ) (at : ℕ) → unsignedAt order w file at ≡ number order (bytesAt w file at 0)
@@ -131,8 +133,8 @@ module _ (order : Order) (w : ℕ) where
   length-number = by order
     where
       by : (o : Order) (n : ℕ) → length (numberBytes o w n) ≡ w
-      by big n = length-digits 8 w n
-      by little n = length-little w n
+      by Big n = length-digits 8 w n
+      by Little n = length-little w n
 
   pub put-fits : (at n : ℕ) (range : List ℕ) → at + w ≤ length range → numberPut order w at n range ≡ writtenAt at (numberBytes order w n) range
   unfolding numberPut
@@ -163,8 +165,8 @@ little-value (suc w) n =
 
 -- the bytes of a number write its lowest w bytes, in every order
 pub bytes-number : (order : Order) (w n : ℕ) → number order (numberBytes order w n) ≡ n % 2 ^ (8 * w)
-bytes-number big w n = value-digits 8 w n
-bytes-number little w n = little-value w n
+bytes-number Big w n = value-digits 8 w n
+bytes-number Little w n = little-value w n
 
 -- the bytes of a field that lies inside the file
 pub bytes-inside : (w : ℕ) (file : List ℕ) (at k : ℕ) → at + k + w ≤ length file → bytesAt w file at k ≡ take w (drop (at + k) file)

@@ -8,15 +8,21 @@ use lib.ListN.{getD}
 use lib.Dec.{ltb}
 use lib.IntN.{ℤ, pos, negsuc}
 use Rattle.laws.specs.Digits.{value}
+use Rattle.fields.specs.declared.Order.{Order}
+use Rattle.fields.specs.declared.Order.the-variants.{Big, Little}
 
-pub data Order : Type 0 where
-  big little : Order
+-- The two byte orders.
+abbrev pub big : Order
+big = Big
+
+abbrev pub little : Order
+little = Little
 
 -- The number that some bytes write: big-endian, the first byte is the highest; little-endian, it is the lowest.
 abbrev pub number : Order → List ℕ → ℕ
-number big bytes = value 8 0 bytes
-number little [] = 0
-number little (b ∷ bytes) = b + 256 * number little bytes
+number Big bytes = value 8 0 bytes
+number Little [] = 0
+number Little (b ∷ bytes) = b + 256 * number Little bytes
 
 -- The w bytes of `file` from place at + k on.
 abbrev pub bytesAt : ℕ → List ℕ → ℕ → ℕ → List ℕ

@@ -7,7 +7,8 @@ use lib.ListN.{length}
 use lib.Dec.{leb}
 use Rattle.laws.specs.Digits.{digits}
 use Rattle.laws.specs.Writing.{writtenAt}
-use Rattle.fields.specs.Number.{Order, big, little}
+use Rattle.fields.specs.declared.Order.{Order}
+use Rattle.fields.specs.declared.Order.the-variants.{Big, Little}
 
 -- The w bytes of a number, the lowest first.
 abbrev pub littleBytes : ℕ → ℕ → List ℕ
@@ -16,8 +17,8 @@ littleBytes (suc w) n = n % 256 ∷ littleBytes w (n / 256)
 
 -- The w bytes of a number: big-endian, the highest first; little-endian, the lowest first.
 abbrev pub numberBytes : Order → ℕ → ℕ → List ℕ
-numberBytes big w n = digits 8 w n
-numberBytes little w n = littleBytes w n
+numberBytes Big w n = digits 8 w n
+numberBytes Little w n = littleBytes w n
 
 -- The range with the w bytes of a number at a place; as it was where they do not fit.
 unfoldable pub numberPut : Order → ℕ → ℕ → ℕ → List ℕ → List ℕ

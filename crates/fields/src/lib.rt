@@ -13,6 +13,12 @@ ghost use Rattle.fields.specs.Number.{big, little, number, bytesAt, unsi
 ghost use Rattle.laws.specs.Writing.{writtenAt};
 ghost use Rattle.fields.specs.Written.{littleBytes, numberBytes, numberPut};
 
+// The byte orders.
+pub enum Order {
+    Big,
+    Little,
+}
+
 // The byte at a place.
 pub fn byte(s: &[u8], at: usize) -> u8
     ensures { λ r. ⌜ r ≡ getD (now (s .entry)) at 0 ⌝ }
@@ -105,6 +111,16 @@ fn big_endian(bytes: u32) -> u32
     )
 }
 
+// The number of a word's bytes, in an order.
+pub fn number_by(order: Order, bytes: u32) -> u32
+    ensures { λ r. ⌜ r ≡ number order (littleBytes 4 bytes) ⌝ }
+{
+    match order {
+        Order::Big => big_endian(bytes),
+        Order::Little => little_endian(bytes),
+    }
+}
+
 // The number of eight bytes, by the numbers of its halves.
 fn joined(high: u32, low: u32) -> u64
     ensures { λ r. ⌜ r ≡ high * 4294967296 + low ⌝ }
@@ -190,6 +206,43 @@ pub fn le_i64(s: &[u8], at: usize) -> i64
     ensures { λ r. ⌜ r ≡ signedAt little 8 (now (s .entry)) at ⌝ }
 {
     signed8(le_u64(s, at))
+}
+
+// The unsigned field of four bytes at a place, in an order.
+pub fn u32_at(order: Order, s: &[u8], at: usize) -> u32
+    ensures { λ r. ⌜ r ≡ unsignedAt order 4 (now (s .entry)) at ⌝ }
+{
+    number_by(order, four(s, at, 0))
+}
+
+// The unsigned field of eight bytes at a place, in an order.
+pub fn u64_at(order: Order, s: &[u8], at: usize) -> u64
+    ensures { λ r. ⌜ r ≡ unsignedAt order 8 (now (s .entry)) at ⌝ }
+{
+    match order {
+        Order::Big => be_u64(s, at),
+        Order::Little => le_u64(s, at),
+    }
+}
+
+// The two's complement field of four bytes at a place, in an order.
+pub fn i32_at(order: Order, s: &[u8], at: usize) -> i32
+    ensures { λ r. ⌜ r ≡ signedAt order 4 (now (s .entry)) at ⌝ }
+{
+    match order {
+        Order::Big => be_i32(s, at),
+        Order::Little => le_i32(s, at),
+    }
+}
+
+// The two's complement field of eight bytes at a place, in an order.
+pub fn i64_at(order: Order, s: &[u8], at: usize) -> i64
+    ensures { λ r. ⌜ r ≡ signedAt order 8 (now (s .entry)) at ⌝ }
+{
+    match order {
+        Order::Big => be_i64(s, at),
+        Order::Little => le_i64(s, at),
+    }
 }
 
 // Writes the low w bytes of a number at a place, the lowest first.

@@ -17,3 +17,4 @@ pub mod Rising
 pub mod Storing
 pub mod Largest
 pub mod First
+pub mod Alike

@@ -1,14 +1,14 @@
 -- Signed numbers: tests, the sizes they state, and the bits in which the machine holds them. Assumes nothing.
-use mathlib.Core.Path.{_≡_, refl, sym, ap}
+use mathlib.Core.Path.{_≡_, refl, sym, ap, _∙_}
 use mathlib.Core.Bool.{true, false}
-use Prim.Native.Nat.{ℕ, _≤_, _<_}
+use Prim.Native.Nat.{ℕ, _^_, _≤_, _<_}
 use native.Mathlib.Omega.{arith}
 use lib.Dec.{T, eqb}
 use lib.IntN.{ℤ, pos, negsuc, natAbs}
 use lib.Signed.{ltZ, leZ, nonNeg, mag, _≤ℤ_, _<ℤ_}
 use borrow.Author.Tests.{le-leb, lt-leb, lt-ltb, le-ltb, leb-true, leb-false, ltb-true, ltb-false, eqb-true, eq-eqb}
 use mir.Syntax.{Width, w64}
-use mir.Val.{Fits, SFits, toZ, ofZ}
+use mir.Val.{Fits, SFits, toZ, ofZ, hbits}
 use mir.ValLaws.{toZ-ofZ}
 use Rattle.laws.specs.Signed.{toNat, eqZ}
 use Rattle.laws.proofs.Tests.{never, true-T, T-true}
@@ -115,6 +115,10 @@ size-cast (pos n) h e = (tt, record { fits = omega arith })
 size-cast (negsuc n) h e = never (sym e)
 
 -- ---- the machine's numbers: a signed number is its bits, read again
+
+-- a signed result, at every width
+pub again : (w : Width) (z e : ℤ) → mag z < 2 ^ hbits w → z ≡ e → toZ w (ofZ w z) ≡ e
+again w z e h p = toZ-ofZ w z (record { sfits = h }) ∙ p
 
 module _ (w : Width) (z : ℤ) (f : SFits w z) where
   pub bits-negative : ltZ (toZ w (ofZ w z)) (pos 0) ≡ true → 0 ≡ toNat z

@@ -11,6 +11,7 @@ use borrow.Author.Tests.{eq-eqb, ne-eqb, eqb-true, eqb-false, not-true}
 use Rattle.laws.specs.Places.{every}
 use Rattle.laws.proofs.Tests.{never, bool-cases, both-pass}
 use Rattle.laws.proofs.Places.{every-at, every-all, every-fails}
+use Rattle.fields.specs.declared.Order.{Order}
 use Rattle.fields.proofs.Laws.{past-end}
 use Rattle.metadata.specs.declared.Closing.{Closing}
 use Rattle.metadata.specs.declared.Closing.the-variants.{At, Open}
@@ -79,20 +80,20 @@ module _ (w : Bool) (s : List ℕ) (from nul : ℕ) (l : length s < nul) (h : fr
 
 -- ---- behind the accession, closed at a
 
-module _ (s : List ℕ) (from to n a : ℕ) where
+module _ (order : Order) (s : List ℕ) (from to n a : ℕ) where
   -- no description whose NUL stands five bytes before the end
-  none-by : (m : Closing) → ((z : ℕ) → m ≡ At z → z + 5 ≡ to → ⊥) → Bad ≡ behindDescription s from to n a m
+  none-by : (m : Closing) → ((z : ℕ) → m ≡ At z → z + 5 ≡ to → ⊥) → Bad ≡ behindDescription order s from to n a m
   none-by Open f = refl
   none-by (At z) f = rw (ne-eqb (z + 5) to (f z refl))
 
   -- the record ends too early for one
-  pub short-record : to < a + 6 → Bad ≡ behindDescription s from to n a (closing false s (to - (a + 1)) (a + 1))
+  pub short-record : to < a + 6 → Bad ≡ behindDescription order s from to n a (closing false s (to - (a + 1)) (a + 1))
   short-record l =
       none-by (closing false s (to - (a + 1)) (a + 1))
       (λ z e g. let i = within false s to (a + 1) z e in omega arith)
 
   module _ (d : ℕ) (e : d + 5 ≡ to) where
-    pub no-description : isText false s (a + 1) d ≡ false → Bad ≡ behindDescription s from to n a (closing false s (to - (a + 1)) (a + 1))
+    pub no-description : isText false s (a + 1) d ≡ false → Bad ≡ behindDescription order s from to n a (closing false s (to - (a + 1)) (a + 1))
     no-description f =
         none-by (closing false s (to - (a + 1)) (a + 1))
         (λ z g i. let q : z ≡ d = omega arith in

@@ -11,11 +11,12 @@ use lib.Dec.{leb, eqb, le→leb, leb→le}
 use lib.IntN.{ℤ, pos, negsuc}
 use lib.Signed.{_≤ℤ_, leZ-yes}
 use borrow.Author.Tests.{eq-eqb, ne-eqb, eqb-true, eqb-false, le-leb, leb-true, not-true}
+use Rattle.fields.specs.declared.Order.{Order}
+use Rattle.fields.specs.Number.{signedAt}
 use Rattle.laws.proofs.Tests.{never, bool-cases, both-pass, cond-passed, cond-failed}
 use Rattle.metadata.specs.declared.Closing.{Closing}
 use Rattle.metadata.specs.declared.Closing.the-variants.{At, Open}
 use Rattle.metadata.specs.declared.Texts.the-variants.{Lengths, Bad}
-use Rattle.metadata.specs.Fields.{setSigned}
 use Rattle.metadata.specs.Record.{textByte, closing, isTaxonomy, behindDescription, behindAccession, behindName, textsIn}
 use Rattle.metadata.specs.Rules.{TextByte, Text, Taxonomy, MetadataRule}
 use Rattle.metadata.proofs.Closings.{not-open, within}
@@ -93,33 +94,33 @@ rule-id z h = ⊎-elim (id-unset z) (id-set z) h
 
 -- ---- the record
 
-not-bad : {n a d : ℕ} → Bad ≡ Lengths n a d → ⊥
+pub not-bad : {n a d : ℕ} → Bad ≡ Lengths n a d → ⊥
 not-bad h = let z : _≡_ {A = ℕ} 0 1 = cc in omega arith
 
-module _ (s : List ℕ) (from to n a d : ℕ) where
-  description-read : (x y : ℕ) (m : Closing) → behindDescription s from to x y m ≡ Lengths n a d
-      → (z : ℕ) × (m ≡ At z) × (z + 5 ≡ to) × (isTaxonomy (setSigned 4 s (z + 1)) ≡ true) × (x - from ≡ n) × (y - (x + 1) ≡ a) × (z - (y + 1) ≡ d)
+module _ (order : Order) (s : List ℕ) (from to n a d : ℕ) where
+  description-read : (x y : ℕ) (m : Closing) → behindDescription order s from to x y m ≡ Lengths n a d
+      → (z : ℕ) × (m ≡ At z) × (z + 5 ≡ to) × (isTaxonomy (signedAt order 4 s (z + 1)) ≡ true) × (x - from ≡ n) × (y - (x + 1) ≡ a) × (z - (y + 1) ≡ d)
   description-read x y Open h = absurd (not-bad h)
   description-read x y (At z) h =
       let p = cond-passed (eqb (z + 5) to) not-bad h in
-      let q = cond-passed (isTaxonomy (setSigned 4 s (z + 1))) not-bad (p .1) in
+      let q = cond-passed (isTaxonomy (signedAt order 4 s (z + 1))) not-bad (p .1) in
       let r = q .1 in
       (z, refl, eqb-true (z + 5) to (p .0), q .0, (cc), (cc), (cc))
 
-  accession-read : (x : ℕ) (m : Closing) → behindAccession s from to x m ≡ Lengths n a d
-      → (y : ℕ) × (m ≡ At y) × (behindDescription s from to x y (closing false s (to - (y + 1)) (y + 1)) ≡ Lengths n a d)
+  accession-read : (x : ℕ) (m : Closing) → behindAccession order s from to x m ≡ Lengths n a d
+      → (y : ℕ) × (m ≡ At y) × (behindDescription order s from to x y (closing false s (to - (y + 1)) (y + 1)) ≡ Lengths n a d)
   accession-read x Open h = absurd (not-bad h)
   accession-read x (At y) h = (y, refl, h)
 
-  name-read : (m : Closing) → behindName s from to m ≡ Lengths n a d
-      → (x : ℕ) × (m ≡ At x) × (x ≡ from → ⊥) × (behindAccession s from to x (closing true s (to - (x + 1)) (x + 1)) ≡ Lengths n a d)
+  name-read : (m : Closing) → behindName order s from to m ≡ Lengths n a d
+      → (x : ℕ) × (m ≡ At x) × (x ≡ from → ⊥) × (behindAccession order s from to x (closing true s (to - (x + 1)) (x + 1)) ≡ Lengths n a d)
   name-read Open h = absurd (not-bad h)
   name-read (At x) h = let p = cond-failed (eqb x from) not-bad h in (x, refl, eqb-false x from (p .0), p .1)
 
   rule-at : (x y z : ℕ) → closing true s (to - from) from ≡ At x → (x ≡ from → ⊥)
       → closing true s (to - (x + 1)) (x + 1) ≡ At y → closing false s (to - (y + 1)) (y + 1) ≡ At z
-      → z + 5 ≡ to → isTaxonomy (setSigned 4 s (z + 1)) ≡ true → x - from ≡ n → y - (x + 1) ≡ a → z - (y + 1) ≡ d
-      → MetadataRule s from to n a d
+      → z + 5 ≡ to → isTaxonomy (signedAt order 4 s (z + 1)) ≡ true → x - from ≡ n → y - (x + 1) ≡ a → z - (y + 1) ≡ d
+      → MetadataRule order s from to n a d
   rule-at x y z cx ne cy cz e0 t e1 e2 e3 =
       let wx = within true s to from x cx in
       let wy = within true s to (x + 1) y cy in
@@ -132,7 +133,7 @@ module _ (s : List ℕ) (from to n a d : ℕ) where
         nameText = rw ex at (closed-text true s (to - from) from x cx);
         accessionText = rw (ey, ex) at (closed-text true s (to - (x + 1)) (x + 1) y cy);
         descriptionText = rw (ez, ey) at (closed-text false s (to - (y + 1)) (y + 1) z cz);
-        taxonomy = rw ez at (id-rule (setSigned 4 s (z + 1)) t);
+        taxonomy = rw ez at (id-rule (signedAt order 4 s (z + 1)) t);
         whole = omega arith;
       }
     where
@@ -141,7 +142,7 @@ module _ (s : List ℕ) (from to n a d : ℕ) where
       positive (suc k) f = omega arith
 
   -- What is read as a metadata record with texts of these lengths is one ..
-  pub texts-rule : textsIn s from to ≡ Lengths n a d → MetadataRule s from to n a d
+  pub texts-rule : textsIn order s from to ≡ Lengths n a d → MetadataRule order s from to n a d
   unfolding textsIn
   texts-rule h =
       let p = name-read (closing true s (to - from) from) h in
@@ -150,7 +151,7 @@ module _ (s : List ℕ) (from to n a d : ℕ) where
       rule-at (p .0) (q .0) (r .0) (p .1) (p .2) (q .1) (r .1) (r .2) (r .3) (r .4) (r .5) (r .6)
 
   -- .. and a metadata record with texts of these lengths is read as one.
-  pub rule-texts : MetadataRule s from to n a d → textsIn s from to ≡ Lengths n a d
+  pub rule-texts : MetadataRule order s from to n a d → textsIn order s from to ≡ Lengths n a d
   unfolding textsIn
   rule-texts r =
       let l = r .named in
@@ -166,7 +167,7 @@ module _ (s : List ℕ) (from to n a d : ℕ) where
         text-closed true s to (from + n + 1) (from + n + 1 + a) (omega arith) (omega arith) (r .accessionText),
         text-closed false s to (from + n + 1 + a + 1) (from + n + 1 + a + 1 + d) (omega arith) (omega arith) (r .descriptionText),
         eq-eqb (from + n + 1 + a + 1 + d + 5) to e,
-        rule-id (setSigned 4 s (from + n + 1 + a + 1 + d + 1)) (r .taxonomy),
+        rule-id (signedAt order 4 s (from + n + 1 + a + 1 + d + 1)) (r .taxonomy),
         f1,
         f2,
         f3,

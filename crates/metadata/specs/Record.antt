@@ -7,13 +7,14 @@ use lib.Dec.{eqb, leb}
 use lib.IntN.{ℤ, pos, negsuc}
 use lib.ListN.{getD}
 use Rattle.laws.specs.Places.{every}
+use Rattle.fields.specs.declared.Order.{Order}
+use Rattle.fields.specs.Number.{signedAt}
 use Rattle.answers.specs.Numbers.{numberOf}
 use Rattle.answers.specs.declared.Refusal.the-variants.{BadMetadata}
 use Rattle.metadata.specs.declared.Closing.{Closing}
 use Rattle.metadata.specs.declared.Closing.the-variants.{At, Open}
 use Rattle.metadata.specs.declared.Texts.{Texts}
 use Rattle.metadata.specs.declared.Texts.the-variants.{Lengths, Bad}
-use Rattle.metadata.specs.Fields.{setSigned}
 
 -- A name and an accession have no byte 9 to 13 and none 32.
 abbrev pub nameByte : ℕ → Bool
@@ -52,25 +53,27 @@ isTaxonomy (pos (suc n)) = true
 isTaxonomy (negsuc zero) = true
 isTaxonomy (negsuc (suc n)) = false
 
--- Behind the description, closed at d: a taxonomy id of four bytes; nothing more. n and a are where name and accession are closed.
-abbrev pub behindDescription : List ℕ → ℕ → ℕ → ℕ → ℕ → Closing → Texts
-behindDescription file from to n a Open = Bad
-behindDescription file from to n a (At d) =
-    cond (eqb (d + 5) to) (cond (isTaxonomy (setSigned 4 file (d + 1))) (Lengths (n - from) (a - (n + 1)) (d - (a + 1))) Bad) Bad
+-- A record of a set of a byte order: its taxonomy id is read in that order, its texts are not.
+module _ (order : Order) where
+  -- Behind the description, closed at d: a taxonomy id of four bytes; nothing more. n and a are where name and accession are closed.
+  abbrev pub behindDescription : List ℕ → ℕ → ℕ → ℕ → ℕ → Closing → Texts
+  behindDescription file from to n a Open = Bad
+  behindDescription file from to n a (At d) =
+      cond (eqb (d + 5) to) (cond (isTaxonomy (signedAt order 4 file (d + 1))) (Lengths (n - from) (a - (n + 1)) (d - (a + 1))) Bad) Bad
 
--- Behind the accession, closed at a: the description.
-abbrev pub behindAccession : List ℕ → ℕ → ℕ → ℕ → Closing → Texts
-behindAccession file from to n Open = Bad
-behindAccession file from to n (At a) = behindDescription file from to n a (closing false file (to - (a + 1)) (a + 1))
+  -- Behind the accession, closed at a: the description.
+  abbrev pub behindAccession : List ℕ → ℕ → ℕ → ℕ → Closing → Texts
+  behindAccession file from to n Open = Bad
+  behindAccession file from to n (At a) = behindDescription file from to n a (closing false file (to - (a + 1)) (a + 1))
 
--- Behind the name, which is not empty and closed at n: the accession.
-abbrev pub behindName : List ℕ → ℕ → ℕ → Closing → Texts
-behindName file from to Open = Bad
-behindName file from to (At n) = cond (eqb n from) Bad (behindAccession file from to n (closing true file (to - (n + 1)) (n + 1)))
+  -- Behind the name, which is not empty and closed at n: the accession.
+  abbrev pub behindName : List ℕ → ℕ → ℕ → Closing → Texts
+  behindName file from to Open = Bad
+  behindName file from to (At n) = cond (eqb n from) Bad (behindAccession file from to n (closing true file (to - (n + 1)) (n + 1)))
 
--- The lengths of the texts of the metadata record from one byte up to, not including, another; Bad where these are no metadata record.
-unfoldable pub textsIn : List ℕ → ℕ → ℕ → Texts
-textsIn file from to = behindName file from to (closing true file (to - from) from)
+  -- The lengths of the texts of the metadata record from one byte up to, not including, another; Bad where these are no metadata record.
+  unfoldable pub textsIn : List ℕ → ℕ → ℕ → Texts
+  textsIn file from to = behindName file from to (closing true file (to - from) from)
 
 -- Whether bytes are a metadata record, and the lengths of its name, accession and description; 0 where they are none.
 abbrev pub isGood : Texts → Bool

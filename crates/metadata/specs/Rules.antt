@@ -9,7 +9,8 @@ use Prim.Native.Nat.{ℕ, _+_, _≤_, _<_}
 use lib.ListN.{getD}
 use lib.IntN.{ℤ, pos, negsuc}
 use lib.Signed.{_≤ℤ_}
-use Rattle.metadata.specs.Fields.{setSigned}
+use Rattle.fields.specs.declared.Order.{Order}
+use Rattle.fields.specs.Number.{signedAt}
 
 -- A text's byte is no NUL, which closes it; in a name or an accession none of 9 to 13 and 32, in a description not 10.
 abbrev pub TextByte : Bool → ℕ → Type 0
@@ -25,8 +26,8 @@ pub record Text (name : Bool) (file : List ℕ) (from nul : ℕ) : Type 0 where
 abbrev pub Taxonomy : ℤ → Type 0
 Taxonomy id = (id ≡ negsuc 0) ⊎ (pos 1 ≤ℤ id)
 
--- The bytes from one place up to, not including, another are a metadata record with texts of these lengths.
-pub record MetadataRule (file : List ℕ) (from to name accession description : ℕ) : Type 0 where
+-- The bytes from one place up to, not including, another are a metadata record of a set of a byte order, with texts of these lengths.
+pub record MetadataRule (order : Order) (file : List ℕ) (from to name accession description : ℕ) : Type 0 where
   -- name, not empty
   pub named : 0 < name
   pub nameText : Text true file from (from + name)
@@ -34,7 +35,7 @@ pub record MetadataRule (file : List ℕ) (from to name accession description : 
   pub accessionText : Text true file (from + name + 1) (from + name + 1 + accession)
   -- description
   pub descriptionText : Text false file (from + name + 1 + accession + 1) (from + name + 1 + accession + 1 + description)
-  -- then a signed taxonomy id
-  pub taxonomy : Taxonomy (setSigned 4 file (from + name + 1 + accession + 1 + description + 1))
+  -- then a signed taxonomy id, in that order
+  pub taxonomy : Taxonomy (signedAt order 4 file (from + name + 1 + accession + 1 + description + 1))
   -- nothing more
   pub whole : from + name + 1 + accession + 1 + description + 1 + 4 ≡ to

@@ -1,12 +1,12 @@
 // One metadata record of a dsqdata set: name, accession and description, each closed by NUL, and a taxonomy id.
 // The public function takes any bytes and any places.
+use fields::Order;
 use packets::BytePos;
 ghost use mathlib.Core.Path.{_≡_};
 ghost use mathlib.Core.Bool.{true, false, not};
 ghost use Prim.Native.Nat.{_+_, _-_, _≤_, _<_, min};
 ghost use lib.Dec.{eqb};
 ghost use lib.ListN.{length};
-ghost use Rattle.metadata.specs.Fields.{setSigned};
 ghost use Rattle.metadata.specs.Record.{staysIn, allStay, isText, closing, isTaxonomy, behindDescription, behindAccession, behindName, textsIn};
 
 // Where the NUL stands that closes a text.
@@ -124,13 +124,6 @@ fn is_description(file: &[u8], from: usize, nul: usize) -> bool
     all_described(file, from, nul - from)
 }
 
-// The signed field of four bytes at a place.
-fn signed4(file: &[u8], at: usize) -> i32
-    ensures { λ r. ⌜ r ≡ setSigned 4 (now (file .entry)) at ⌝ }
-{
-    fields::le_i32(file, at)
-}
-
 // Whether a number is a taxonomy id or unset.
 fn is_taxonomy(id: i32) -> bool
     ensures { λ r. ⌜ r ≡ isTaxonomy id ⌝ }
@@ -142,11 +135,19 @@ fn is_taxonomy(id: i32) -> bool
 }
 
 // Reads behind the description, which is closed at d, four bytes before the end; name and accession are closed at n and a.
-fn behind_description(file: &[u8], from: usize, to: usize, n: usize, a: usize, d: usize) -> Texts
+fn behind_description(
+    order: Order,
+    file: &[u8],
+    from: usize,
+    to: usize,
+    n: usize,
+    a: usize,
+    d: usize,
+) -> Texts
     requires { ⌜ (from ≤ n) × (n < a) × (a < d) × (d + 5 ≡ to) ⌝ }
-    ensures { λ r. ⌜ r ≡ behindDescription (now (file .entry)) from to n a (Closing.At d) ⌝ }
+    ensures { λ r. ⌜ r ≡ behindDescription order (now (file .entry)) from to n a (Closing.At d) ⌝ }
 {
-    if !is_taxonomy(signed4(file, d + 1)) {
+    if !is_taxonomy(fields::i32_at(order, file, d + 1)) {
         return Texts::Bad;
     }
     Texts::Lengths {
@@ -157,9 +158,9 @@ fn behind_description(file: &[u8], from: usize, to: usize, n: usize, a: usize, d
 }
 
 // Reads behind the accession, which is closed at a: the description's NUL can stand at one place alone.
-fn behind_accession(file: &[u8], from: usize, to: usize, n: usize, a: usize) -> Texts
+fn behind_accession(order: Order, file: &[u8], from: usize, to: usize, n: usize, a: usize) -> Texts
     requires { ⌜ (from ≤ n) × (n < a) × (a < to) ⌝ }
-    ensures { λ r. ⌜ r ≡ behindAccession (now (file .entry)) from to n (Closing.At a) ⌝ }
+    ensures { λ r. ⌜ r ≡ behindAccession order (now (file .entry)) from to n (Closing.At a) ⌝ }
 {
     if to - a < 6 {
         return Texts::Bad;
@@ -168,13 +169,13 @@ fn behind_accession(file: &[u8], from: usize, to: usize, n: usize, a: usize) -> 
     if !is_description(file, a + 1, d) {
         return Texts::Bad;
     }
-    behind_description(file, from, to, n, a, d)
+    behind_description(order, file, from, to, n, a, d)
 }
 
 // Reads behind the name, which is closed at n.
-fn behind_name(file: &[u8], from: usize, to: usize, n: usize) -> Texts
+fn behind_name(order: Order, file: &[u8], from: usize, to: usize, n: usize) -> Texts
     requires { ⌜ (from ≤ n) × (n < to) ⌝ }
-    ensures { λ r. ⌜ r ≡ behindName (now (file .entry)) from to (Closing.At n) ⌝ }
+    ensures { λ r. ⌜ r ≡ behindName order (now (file .entry)) from to (Closing.At n) ⌝ }
 {
     if n == from {
         return Texts::Bad;
@@ -182,17 +183,17 @@ fn behind_name(file: &[u8], from: usize, to: usize, n: usize) -> Texts
     let Closing::At(a) = closing_at(file, n + 1, to) else {
         return Texts::Bad;
     };
-    behind_accession(file, from, to, n, a)
+    behind_accession(order, file, from, to, n, a)
 }
 
-// Reads the metadata record from one byte of a metadata file up to, not including, another.
-pub fn read_record(file: &[u8], start: BytePos, end: BytePos) -> Texts
-    ensures { λ r. ⌜ r ≡ textsIn (now (file .entry)) (start .0) (end .0) ⌝ }
+// Reads the metadata record from one byte of a metadata file up to, not including, another, in the order of its set.
+pub fn read_record(order: Order, file: &[u8], start: BytePos, end: BytePos) -> Texts
+    ensures { λ r. ⌜ r ≡ textsIn order (now (file .entry)) (start .0) (end .0) ⌝ }
 {
     let from = start.0 as usize;
     let to = end.0 as usize;
     let Closing::At(n) = closing_at(file, from, to) else {
         return Texts::Bad;
     };
-    behind_name(file, from, to, n)
+    behind_name(order, file, from, to, n)
 }

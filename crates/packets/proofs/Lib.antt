@@ -2,6 +2,7 @@ pub mod Packing
 pub mod Codes
 pub mod Fours
 pub mod Faults
+pub mod TurnedWords
 pub mod Filled
 pub mod Bases
 pub mod Packed

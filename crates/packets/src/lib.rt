@@ -1,10 +1,12 @@
 // Packets: places, one packet from codes and back, and the tests of a packet by its place in a run. Every public function is total.
 mod encoding;
+mod words;
 
 pub use encoding::encode;
 pub use encoding::next_two_bit;
 pub use encoding::sixes_of;
 pub use encoding::valid_codes;
+pub use words::word_fault;
 ghost use mathlib.Core.Path.{_≡_};
 ghost use mathlib.Core.List.{[], _∷_};
 ghost use Prim.Native.Nat.{_+_, _≤_, _<_};
@@ -137,7 +139,7 @@ pub fn residue_count(packet: u32) -> usize
 
 // 0 where a packet may stand in an amino run before its last: bits 31 and 30 are 01, and no code is above 27. The mask takes bit 2 of each
 // of the six codes, so one expression without a branch tests all of them, and a loop over packets is vectorised.
-fn amino_fault(packet: u32) -> u32
+pub(crate) fn amino_fault(packet: u32) -> u32
     ensures { λ r. ⌜ eqb r 0 ≡ inner 3 packet ⌝ }
 {
     let high = (packet & 0x08421084) & ((packet / 2 & 0x08421084) & (packet / 4 & 0x08421084));

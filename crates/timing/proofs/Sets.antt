@@ -8,7 +8,7 @@ use lib.ListN.{length}
 use Rattle.answers.specs.Numbers.{numberOf}
 use Rattle.answers.specs.declared.Refusal.the-variants.{NoRoom}
 use Rattle.answers.specs.declared.Refusal.{Refusal}
-use Rattle.dsqdata.specs.Header.{recordOf}
+use Rattle.dsqdata.specs.Header.{setOrder, recordOf}
 use Rattle.dsqdata.specs.Check.{setRules, setCheck, setNumber, setValues, setRecordValues}
 use Rattle.dsqdata.specs.declared.SetRecord.{SetRecord}
 use Rattle.dsqdata.specs.declared.SetAnswer.{SetAnswer}
@@ -31,18 +31,18 @@ module _ (index metadata sequence results : List ℕ) where
       → (n ≡ setNumber answer) × (results ≡ setResults answer results)
   unfolding timedSet setCheck
   set-refused r n e h =
-      told-refused Refused setNumber setValues answers (Passed (recordOf index)) (setRules index metadata sequence) 10 results r n e
-      (λ k. passed-not (recordOf index) r (sym k)) h
+      told-refused Refused setNumber setValues answers (Passed (recordOf (setOrder index) index)) (setRules (setOrder index) index metadata sequence) 11 results r n e
+      (λ k. passed-not (recordOf (setOrder index) index) r (sym k)) h
 
-  pub set-short : (set : SetRecord) (n : ℕ) → n ≡ numberOf NoRoom → roomFor 10 (length results) ≡ false → setCheck index metadata sequence ≡ Passed set
+  pub set-short : (set : SetRecord) (n : ℕ) → n ≡ numberOf NoRoom → roomFor 11 (length results) ≡ false → setCheck index metadata sequence ≡ Passed set
       → (n ≡ setNumber answer) × (results ≡ setResults answer results)
   unfolding timedSet setCheck
   set-short set n e room h =
-      told-short Refused setNumber setValues answers (Passed (recordOf index)) (setRules index metadata sequence) 10 results (Passed set) n e
+      told-short Refused setNumber setValues answers (Passed (recordOf (setOrder index) index)) (setRules (setOrder index) index metadata sequence) 11 results (Passed set) n e
       (passed-not set) room h
 
-  pub set-passed : (set : SetRecord) (told : List ℕ) → roomFor 10 (length results) ≡ true → setCheck index metadata sequence ≡ Passed set
+  pub set-passed : (set : SetRecord) (told : List ℕ) → roomFor 11 (length results) ≡ true → setCheck index metadata sequence ≡ Passed set
       → told ≡ resultsPut (setRecordValues set) results → (0 ≡ setNumber answer) × (told ≡ setResults answer results)
   unfolding timedSet setCheck
   set-passed set told room h e =
-      told-passed Refused setNumber setValues answers (Passed (recordOf index)) (setRules index metadata sequence) 10 results (Passed set) told room h refl e
+      told-passed Refused setNumber setValues answers (Passed (recordOf (setOrder index) index)) (setRules (setOrder index) index metadata sequence) 11 results (Passed set) told room h refl e

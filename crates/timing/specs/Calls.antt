@@ -3,7 +3,7 @@
 use mathlib.Core.List.{List, _++_}
 use Prim.Native.Nat.{ℕ}
 use Rattle.laws.specs.Rules.{verdict}
-use Rattle.dsqdata.specs.Header.{recordOf}
+use Rattle.dsqdata.specs.Header.{setOrder, recordOf}
 use Rattle.dsqdata.specs.Check.{setRules, setValues}
 use Rattle.dsqdata.specs.declared.SetAnswer.{SetAnswer}
 use Rattle.dsqdata.specs.declared.SetAnswer.the-variants.{Passed, Refused}
@@ -16,9 +16,10 @@ use Rattle.console.specs.Results.{resultsPut}
 use Rattle.console.specs.Calls.{resultsRule}
 
 unfoldable pub timedSet : List ℕ → List ℕ → List ℕ → ℕ → SetAnswer
-timedSet index metadata sequence room = verdict Refused (Passed (recordOf index)) (setRules index metadata sequence ++ resultsRule 10 room)
+timedSet index metadata sequence room =
+    verdict Refused (Passed (recordOf (setOrder index) index)) (setRules (setOrder index) index metadata sequence ++ resultsRule 11 room)
 
--- The results after the call: the ten header fields; on a refusal, which has none, the range as it was.
+-- The results after the call: the ten header fields and the number of the byte order; on a refusal, which has none, the range as it was.
 abbrev pub setResults : SetAnswer → List ℕ → List ℕ
 setResults answer results = resultsPut (setValues answer) results
 

@@ -15,9 +15,9 @@ ghost use Rattle.nucleotides.specs.Write.{writeAnswer, writeOutput, writeNumber
 ghost use Rattle.timing.specs.Calls.{timedSet, setResults, sizesPut};
 
 // The bytes that the results of a set check take.
-const CHECK_SET_RESULTS: usize = 80;
+const CHECK_SET_RESULTS: usize = 88;
 
-// Checks a set: its index, metadata and sequence file. The results are the ten header fields.
+// Checks a set: its index, metadata and sequence file. The results are the ten header fields, and the number of the byte order.
 #[no_mangle]
 pub extern "C" fn gull_time_check_set(
     index: &[u8],
@@ -34,6 +34,7 @@ pub extern "C" fn gull_time_check_set(
             if results.len() < CHECK_SET_RESULTS {
                 return answers::number(Refusal::NoRoom);
             }
+            let order = set.order;
             let values = [
                 set.magic as u64,
                 set.tag as u64,
@@ -45,6 +46,7 @@ pub extern "C" fn gull_time_check_set(
                 set.longest_sequence,
                 set.count,
                 set.residues,
+                dsqdata::order_number(order),
             ];
             console::put_results(results, &values);
             0

@@ -1,4 +1,4 @@
-//! Cases for the lookup in an opened set.
+//! Cases for the lookup in an opened set, in both byte orders.
 
 use super::order::Order;
 use super::rng::Rng;
@@ -7,26 +7,43 @@ use super::samples::Samples;
 use super::Case;
 use crate::answers::*;
 use crate::call::*;
-use crate::fields::{little_bytes, little_unsigned};
+use crate::dsqdata::MAGIC;
+use crate::fields::ByteOrder;
 use crate::lookup::LAST_END;
 
-/// A record, an index and a number. `ends` are metadata and packet ends of each sequence.
+/// A record with the number for its byte order, an index and a number. `ends` are metadata and packet ends of each sequence,
+/// written in `byte_order`.
 #[derive(Clone, Debug)]
 struct Plan {
     record: Vec<u64>,
+    order_number: u64,
     header: Vec<u8>,
+    byte_order: ByteOrder,
     ends: Vec<[i128; 2]>,
     behind: Vec<u8>,
     length: Option<usize>,
     number: u64,
 }
 
-/// Where the record has its count.
+/// Where the record has its count, and where a lookup has its index.
 const COUNT: usize = 8;
+const INDEX: usize = 11;
+
+/// Numbers for the byte order: the first says little, any other big.
+const ORDER_NUMBERS: [u64; 9] = [0, 1, 2, 255, 256, 1 << 32, 1 << 56, 1 << 63, u64::MAX];
+
+/// The first number for a byte order, or any.
+fn order_number(byte_order: ByteOrder, rng: &mut Rng) -> u64 {
+    match byte_order {
+        ByteOrder::Little => 0,
+        ByteOrder::Big if rng.chance(50) => 1,
+        ByteOrder::Big => *rng.pick(&ORDER_NUMBERS[1..]),
+    }
+}
 
 impl Plan {
-    /// A lookup that finds something. Of record and header only the count must be right.
-    fn by_chance(n: usize, rng: &mut Rng) -> Plan {
+    /// A lookup that finds something. Of record and header only the count and the byte order must be right.
+    fn by_chance(n: usize, byte_order: ByteOrder, rng: &mut Rng) -> Plan {
         let mut record: Vec<u64> = (0..10).map(|_| rng.number()).collect();
         record[COUNT] = n as u64;
         let mut ends = Vec::new();
@@ -37,7 +54,9 @@ impl Plan {
         }
         Plan {
             record,
+            order_number: order_number(byte_order, rng),
             header: rng.bytes(52),
+            byte_order,
             ends,
             behind: vec![],
             length: None,
@@ -47,19 +66,24 @@ impl Plan {
 
     fn call(&self) -> Call {
         let mut index = self.header.clone();
-        index.extend(self.ends.iter().flatten().flat_map(|end| little_bytes(*end, 8)));
+        index.extend(self.ends.iter().flatten().flat_map(|end| self.byte_order.bytes(*end, 8)));
         index.extend(&self.behind);
         index.truncate(self.length.unwrap_or(index.len()));
-        let mut arguments: Vec<Argument> = self.record.iter().map(|field| Argument::Number(*field)).collect();
-        arguments.extend([Argument::Range(index), Argument::Number(self.number)]);
-        Call::new(LOOKUP, arguments)
+        call_on(&self.record, self.order_number, index, self.number)
     }
 }
 
+fn call_on(record: &[u64], order_number: u64, index: Vec<u8>, number: u64) -> Call {
+    let numbers = record.iter().chain([&order_number]);
+    let mut arguments: Vec<Argument> = numbers.map(|number| Argument::Number(*number)).collect();
+    arguments.extend([Argument::Range(index), Argument::Number(number)]);
+    Call::new(LOOKUP, arguments)
+}
+
 /// A number of several sequences, not the first, so that there are ends before its own.
-fn to_damage(rng: &mut Rng) -> Plan {
+fn to_damage(byte_order: ByteOrder, rng: &mut Rng) -> Plan {
     let n = rng.between(2, 6);
-    let mut plan = Plan::by_chance(n, rng);
+    let mut plan = Plan::by_chance(n, byte_order, rng);
     plan.number = rng.between(1, n - 1) as u64;
     plan
 }
@@ -145,32 +169,97 @@ fn end_rules(column: usize) -> Vec<Rule<Plan>> {
     ]
 }
 
-/// The rules are the same for every lookup.
-const TITLE: &str = "any";
+/// The byte orders, and what their rules are called.
+const BYTE_ORDERS: [(ByteOrder, &str); 2] =
+    [(ByteOrder::Little, "little-endian"), (ByteOrder::Big, "big-endian")];
 
 pub fn orders() -> Vec<Order> {
-    vec![order(LOOKUP, TITLE, &rules())]
+    BYTE_ORDERS.map(|(_, title)| order(LOOKUP, title, &rules())).to_vec()
 }
+
+/// How many cases of each byte order come by chance, whatever the count.
+const BY_CHANCE: usize = 250;
 
 pub fn planned(rng: &mut Rng, samples: &Samples) -> Vec<Case> {
     let mut cases = Vec::new();
-    for _ in 0..2 {
-        cases.extend(sides_and_pairs(TITLE, &rules(), rng, to_damage, |plan, _| plan.call()));
+    for (byte_order, title) in BYTE_ORDERS {
+        for _ in 0..2 {
+            let valid = |rng: &mut Rng| to_damage(byte_order, rng);
+            cases.extend(sides_and_pairs(title, &rules(), rng, valid, |plan, _| plan.call()));
+        }
+        cases.extend(limits(byte_order, rng));
+        cases.extend(first_ones(byte_order, rng));
+        cases.extend(elsewhere(byte_order, rng));
+        cases.extend(sizes(byte_order, rng));
+        cases.extend(magics(byte_order, rng));
+        cases.extend(same_in_both(byte_order, rng));
+        cases.extend(unturned(byte_order, rng));
+        cases.extend(real(byte_order, samples));
+        cases.extend((0..BY_CHANCE).map(|_| random_in(byte_order, rng)));
     }
-    cases.extend(limits(rng));
-    cases.extend(first_ones(rng));
-    cases.extend(elsewhere(rng));
-    cases.extend(sizes(rng));
-    cases.extend(real(samples));
+    cases
+}
+
+/// Every number for the byte order, over ends of one, behind either magic or none: the record alone says how to read.
+fn magics(byte_order: ByteOrder, rng: &mut Rng) -> Vec<Case> {
+    let mut cases = Vec::new();
+    for (number, magic) in ORDER_NUMBERS
+        .into_iter()
+        .flat_map(|number| [None, Some(ByteOrder::Little), Some(ByteOrder::Big)].map(|magic| (number, magic)))
+    {
+        let mut plan = to_damage(byte_order, rng);
+        plan.order_number = number;
+        if let Some(other) = magic {
+            plan.header[..4].copy_from_slice(&other.bytes(MAGIC, 4));
+        }
+        // An end above 0 that is read in the other byte order is too large or negative.
+        let aim = if ByteOrder::of_number(number as i128) == byte_order { 0 } else { BAD_OFFSETS };
+        let note = format!("ends {byte_order:?}, magic {magic:?}, order {number}");
+        cases.push(Case::aimed(plan.call(), aim, note));
+    }
+    cases
+}
+
+/// Ends that every order number reads alike: 0 alone, and 0 after -1.
+fn same_in_both(byte_order: ByteOrder, rng: &mut Rng) -> Vec<Case> {
+    let mut cases = Vec::new();
+    for (number, order_number) in [0, 1].into_iter().flat_map(|k| ORDER_NUMBERS.map(|one| (k, one))) {
+        let mut plan = to_damage(byte_order, rng);
+        plan.ends[number] = [0, 0];
+        plan.ends[..number].fill([-1, -1]);
+        (plan.number, plan.order_number) = (number as u64, order_number);
+        cases.push(Case::aimed(plan.call(), 0, format!("ends of 0, order {order_number}")));
+    }
+    cases
+}
+
+/// One end alone in the other byte order: the one before or the own one, of metadata or of packets.
+fn unturned(byte_order: ByteOrder, rng: &mut Rng) -> Vec<Case> {
+    let mut cases = Vec::new();
+    for (back, column) in [(1, 0), (1, 1), (0, 0), (0, 1)] {
+        for end in [1, 127, 128, 255, 256, 65_535, LAST_END - 1] {
+            let mut plan = to_damage(byte_order, rng);
+            let at = plan.number as usize;
+            (plan.ends[at - 1][column], plan.ends[at][column]) =
+                if back == 1 { (end, end + 1) } else { (0, end) };
+            let mut call = plan.call();
+            let place = 52 + 16 * (at - back) + 8 * column;
+            if let Argument::Range(index) = &mut call.arguments[INDEX] {
+                index[place..place + 8].reverse();
+            }
+            let note = format!("{byte_order:?}, {end} turned, {back} before, column {column}");
+            cases.push(Case::aimed(call, BAD_OFFSETS, note));
+        }
+    }
     cases
 }
 
 /// The ends before at -1 and -2, the own ones at the last and one above, in each column.
-fn limits(rng: &mut Rng) -> Vec<Case> {
+fn limits(byte_order: ByteOrder, rng: &mut Rng) -> Vec<Case> {
     let mut cases = Vec::new();
     for column in 0..2 {
         for (before, here) in [(-1, 0), (-1, LAST_END), (0, 1), (0, LAST_END), (LAST_END - 1, LAST_END)] {
-            let mut plan = to_damage(rng);
+            let mut plan = to_damage(byte_order, rng);
             let at = plan.number as usize;
             (plan.ends[at - 1][column], plan.ends[at][column]) = (before, here);
             cases.push(Case::aimed(plan.call(), 0, format!("ends {before} and {here}")));
@@ -186,7 +275,7 @@ fn limits(rng: &mut Rng) -> Vec<Case> {
             (5, 5),
             (-(1 << 63), (1 << 63) - 1),
         ] {
-            let mut plan = to_damage(rng);
+            let mut plan = to_damage(byte_order, rng);
             let at = plan.number as usize;
             (plan.ends[at - 1][column], plan.ends[at][column]) = (before, here);
             cases.push(Case::aimed(plan.call(), BAD_OFFSETS, format!("ends {before} and {here}")));
@@ -196,14 +285,14 @@ fn limits(rng: &mut Rng) -> Vec<Case> {
 }
 
 /// The first sequence, before which stands -1.
-fn first_ones(rng: &mut Rng) -> Vec<Case> {
+fn first_ones(byte_order: ByteOrder, rng: &mut Rng) -> Vec<Case> {
     let mut cases = Vec::new();
     for (end, aim) in
         [(-2, BAD_OFFSETS), (-1, BAD_OFFSETS), (0, 0), (LAST_END, 0), (LAST_END + 1, BAD_OFFSETS)]
     {
         for column in 0..2 {
             let n = rng.between(1, 3);
-            let mut plan = Plan::by_chance(n, rng);
+            let mut plan = Plan::by_chance(n, byte_order, rng);
             plan.number = 0;
             plan.ends[0][column] = end;
             cases.push(Case::aimed(plan.call(), aim, format!("a first end of {end}")));
@@ -213,10 +302,10 @@ fn first_ones(rng: &mut Rng) -> Vec<Case> {
 }
 
 /// Ends of other sequences do not matter.
-fn elsewhere(rng: &mut Rng) -> Vec<Case> {
+fn elsewhere(byte_order: ByteOrder, rng: &mut Rng) -> Vec<Case> {
     let mut cases = Vec::new();
     for _ in 0..20 {
-        let mut plan = Plan::by_chance(6, rng);
+        let mut plan = Plan::by_chance(6, byte_order, rng);
         for at in (0..6).filter(|at| *at as u64 != plan.number && *at as u64 + 1 != plan.number) {
             plan.ends[at] = [-7, (1 << 63) - 1];
         }
@@ -226,16 +315,16 @@ fn elsewhere(rng: &mut Rng) -> Vec<Case> {
 }
 
 /// Every count and number of small sets, the longest index of the protocol, and each length around the right one.
-fn sizes(rng: &mut Rng) -> Vec<Case> {
+fn sizes(byte_order: ByteOrder, rng: &mut Rng) -> Vec<Case> {
     let mut cases = Vec::new();
     for (n, length) in (0..4).flat_map(|n| (0..52 + 16 * n + 20).map(move |length| (n, length))) {
-        let mut plan = Plan::by_chance(n, rng);
+        let mut plan = Plan::by_chance(n, byte_order, rng);
         plan.behind = rng.bytes(20);
         plan.length = Some(length);
         cases.push(Case::free(plan.call(), format!("an index of {length} bytes for {n}")));
     }
     for n in [0, 1, 2, 3, 1020] {
-        let mut plan = Plan::by_chance(n, rng);
+        let mut plan = Plan::by_chance(n, byte_order, rng);
         for number in [0, 1, 2, 1019, n as u64, n as u64 + 1, u64::MAX] {
             plan.number = number;
             let aim = if number < n as u64 { 0 } else { NO_SUCH_NUMBER };
@@ -245,37 +334,45 @@ fn sizes(rng: &mut Rng) -> Vec<Case> {
     cases
 }
 
-/// Every sequence of the real sets, with the record as the index has it.
-fn real(samples: &Samples) -> Vec<Case> {
+/// Every sequence of the real sets, with the record as the index has it, and with the other byte order.
+fn real(byte_order: ByteOrder, samples: &Samples) -> Vec<Case> {
     let mut cases = Vec::new();
     for set in &samples.sets {
-        let fours = (0..7).map(|k| &set.index[4 * k..4 * k + 4]);
-        let eights = (0..3).map(|k| &set.index[28 + 8 * k..36 + 8 * k]);
-        let record: Vec<u64> = fours.chain(eights).map(|field| little_unsigned(field) as u64).collect();
-        for number in 0..=record[COUNT] {
-            let mut arguments: Vec<Argument> = record.iter().map(|field| Argument::Number(*field)).collect();
-            arguments.extend([Argument::Range(set.index.clone()), Argument::Number(number)]);
-            cases.push(Case::free(Call::new(LOOKUP, arguments), format!("{} number {number}", set.name)));
+        let [index, ..] = set.files_in(byte_order);
+        let fours = (0..7).map(|k| &index[4 * k..4 * k + 4]);
+        let eights = (0..3).map(|k| &index[28 + 8 * k..36 + 8 * k]);
+        let record: Vec<u64> = fours.chain(eights).map(|field| byte_order.unsigned(field) as u64).collect();
+        for (number, order) in
+            (0..=record[COUNT]).flat_map(|number| ByteOrder::BOTH.map(|order| (number, order)))
+        {
+            let call = call_on(&record, order.number() as u64, index.clone(), number);
+            let note = format!("{}, {byte_order:?}, number {number}, read {order:?}", set.name);
+            cases.push(Case::free(call, note));
         }
     }
     cases
 }
 
 pub fn random(rng: &mut Rng) -> Case {
+    let byte_order = *rng.pick(&ByteOrder::BOTH);
+    random_in(byte_order, rng)
+}
+
+fn random_in(byte_order: ByteOrder, rng: &mut Rng) -> Case {
     match rng.below(10) {
         0..=3 => {
             let n = rng.between(1, 20);
-            Case::aimed(Plan::by_chance(n, rng).call(), 0, "valid")
+            Case::aimed(Plan::by_chance(n, byte_order, rng).call(), 0, "valid")
         }
         4..=6 => {
-            let plan = to_damage(rng);
+            let plan = to_damage(byte_order, rng);
             let Damaged { plan, number, note } = by_chance(&rules(), rng, plan);
             Case::aimed(plan.call(), number, note)
         }
         _ => {
             let n = rng.between(1, 3);
-            let call = Plan::by_chance(n, rng).call();
-            Case::free(super::spoiled(call, &[10], rng), "a byte changed")
+            let call = Plan::by_chance(n, byte_order, rng).call();
+            Case::free(super::spoiled(call, &[INDEX], rng), "a byte changed")
         }
     }
 }

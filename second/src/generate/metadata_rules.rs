@@ -61,15 +61,15 @@ fn texts() -> Vec<Rule<Plan>> {
 /// The NULs, the taxonomy id, and the end.
 fn closings() -> Vec<Rule<Plan>> {
     let mut id = rule(BAD_METADATA, "the taxonomy id is -1 or at least 1");
-    for value in [-1i32, 1, i32::MAX] {
-        id = id.passes(value.to_string(), good(move |record| record.closing = value.to_le_bytes().to_vec()));
+    for value in [-1, 1, 128, 2_147_483_647] {
+        id = id.passes(value.to_string(), good(move |record| record.taxonomy_id = value));
     }
-    for value in [0, -2, i32::MIN] {
-        id = id.breaks(value.to_string(), bad(move |record| record.closing = value.to_le_bytes().to_vec()));
+    for value in [0, -2, -256, -2_147_483_648] {
+        id = id.breaks(value.to_string(), bad(move |record| record.taxonomy_id = value));
     }
     vec![
         rule(BAD_METADATA, "each text is closed by NUL")
-            .passes("three NULs and four bytes", good(|record| record.closing = vec![1, 1, 1, 1]))
+            .passes("three NULs and four bytes", good(|record| record.taxonomy_id = 0x0101_0101))
             .breaks("two NULs", |plan| {
                 let last = plan.metadata_ends[plan.at] as usize;
                 plan.metadata[last - 4..=last].fill(b'x');
@@ -87,10 +87,11 @@ fn closings() -> Vec<Rule<Plan>> {
                 }),
             ),
         rule(BAD_METADATA, "four bytes and nothing more stand behind the texts")
-            .passes("4 bytes", good(|record| record.closing = vec![0, 0, 0, 1]))
-            .breaks("3 bytes", bad(|record| record.closing = vec![1, 0, 0]))
-            .breaks("5 bytes", bad(|record| record.closing = vec![1, 0, 0, 0, 0]))
-            .breaks("no byte", bad(|record| record.closing = vec![])),
+            .passes("4 bytes of 1", good(|record| record.taxonomy_id = 1))
+            .passes("4 bytes of 2^24", good(|record| record.taxonomy_id = 1 << 24))
+            .breaks("3 bytes", bad(|record| (record.taxonomy_id, record.id_width) = (1, 3)))
+            .breaks("5 bytes", bad(|record| (record.taxonomy_id, record.id_width) = (1, 5)))
+            .breaks("no byte", bad(|record| record.id_width = 0)),
         id,
     ]
 }

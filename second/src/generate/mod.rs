@@ -3,6 +3,7 @@
 
 pub mod base_cases;
 pub mod bodies;
+pub mod byte_order_cases;
 pub mod decode_cases;
 pub mod decode_rules;
 pub mod definitions;
@@ -35,6 +36,7 @@ pub mod samples;
 pub mod set_cases;
 pub mod set_rules;
 pub mod sets;
+pub mod turned;
 pub mod unpack_cases;
 pub mod unpack_rules;
 pub mod volume_cases;

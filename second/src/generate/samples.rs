@@ -1,7 +1,9 @@
 //! The real volumes and sets of the samples folder.
 
+use super::turned::{wholly_turned, Files};
 use crate::console::packets_of_bytes;
 use crate::dsqdata::read_ends;
+use crate::fields::ByteOrder;
 use crate::residues::Alphabet;
 use std::fs;
 use std::path::Path;
@@ -17,14 +19,22 @@ pub struct SampleVolume {
     pub lines: Vec<String>,
 }
 
-/// A real set. One that is refused has no sequences.
+/// A real set, little-endian as its machine was. One that is refused has no sequences.
 #[derive(Clone, Debug)]
 pub struct SampleSet {
     pub name: String,
-    pub index: Vec<u8>,
-    pub metadata: Vec<u8>,
-    pub sequence: Vec<u8>,
+    pub files: Files,
     pub lines: Vec<String>,
+}
+
+impl SampleSet {
+    /// Its files as a machine of this byte order would have written them.
+    pub fn files_in(&self, byte_order: ByteOrder) -> Files {
+        match byte_order {
+            ByteOrder::Little => self.files.clone(),
+            ByteOrder::Big => wholly_turned(&self.files, ByteOrder::Little),
+        }
+    }
 }
 
 #[derive(Clone, Debug, Default)]
@@ -92,9 +102,7 @@ fn set(folder: &Path, file: &str) -> Result<SampleSet, String> {
     let part = |ending: &str| folder.join(format!("{name}.{ending}"));
     Ok(SampleSet {
         name: name.to_string(),
-        index: read(&part("dsqi"))?,
-        metadata: read(&part("dsqm"))?,
-        sequence: read(&part("dsqs"))?,
+        files: [read(&part("dsqi"))?, read(&part("dsqm"))?, read(&part("dsqs"))?],
         lines: lines(&part("seq")),
     })
 }
@@ -104,10 +112,11 @@ impl Samples {
     pub fn runs(&self) -> Vec<(u64, Vec<u32>)> {
         let mut runs = Vec::new();
         for set in &self.sets {
-            let alphabet = set.index[8] as u64;
-            let packets = packets_of_bytes(&set.sequence[8..]);
+            let [index, _, sequence] = &set.files;
+            let alphabet = index[8] as u64;
+            let packets = packets_of_bytes(&sequence[8..], ByteOrder::Little);
             let mut start = 0;
-            for ends in read_ends(&set.index) {
+            for ends in read_ends(index, ByteOrder::Little) {
                 let next = ends.packets as usize + 1;
                 runs.push((alphabet, packets[start..next].to_vec()));
                 start = next;

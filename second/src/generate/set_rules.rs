@@ -1,10 +1,12 @@
 //! The rules of a set in the order of the check's refusals.
 
 use super::metadata_rules;
+use super::rng::Rng;
 use super::rules::{rule, Rule};
-use super::sets::Plan;
+use super::sets::{magic, Plan};
 use crate::answers::*;
-use crate::dsqdata::MAGIC;
+use crate::dsqdata::{MAGIC, TURNED_MAGIC};
+use crate::fields::ByteOrder;
 use crate::packets::{five_bit_packet, Packet, NO_RESIDUE};
 use crate::residues::Alphabet;
 
@@ -51,9 +53,9 @@ pub fn behind_runs() -> Vec<Rule<Plan>> {
     rules
 }
 
-/// A set without sequences, of the same tag.
+/// A set without sequences, of the same tag and byte order.
 fn without_sequences(plan: &mut Plan) {
-    *plan = Plan::new(plan.alphabet, &[], vec![], plan.tags[0]);
+    *plan = Plan::new(plan.alphabet, &[], vec![], plan.tags[0], plan.byte_orders[0]);
 }
 
 /// Each file by itself: its length, then its magic.
@@ -63,31 +65,65 @@ fn files() -> Vec<Rule<Plan>> {
             .passes("52 bytes, no sequences", without_sequences)
             .breaks("51 bytes", |plan| plan.index_length = Some(51))
             .farther(|plan, rng| plan.index_length = Some(rng.below(52))),
-        magic("the magic of the index", 0),
+        index_magic(),
         rule(ENDS_TOO_EARLY, "the metadata file has 8 bytes")
             .leads_to(BAD_OFFSETS, "8 bytes", |plan: &mut Plan| plan.metadata_length = Some(8))
             .breaks("7 bytes", |plan| plan.metadata_length = Some(7))
             .farther(|plan, rng| plan.metadata_length = Some(rng.below(8))),
-        magic("the magic of the metadata file", 1),
+        later_magic("the magic of the metadata file is the one of the index", 1),
         rule(ENDS_TOO_EARLY, "the sequence file has 8 bytes")
             .leads_to(BAD_OFFSETS, "8 bytes", |plan: &mut Plan| plan.sequence_length = Some(8))
             .breaks("7 bytes", |plan| plan.sequence_length = Some(7))
             .farther(|plan, rng| plan.sequence_length = Some(rng.below(8))),
-        magic("the magic of the sequence file", 2),
+        later_magic("the magic of the sequence file is the one of the index", 2),
     ]
 }
 
-fn magic(name: &'static str, file: usize) -> Rule<Plan> {
-    let changed = [
-        ("one less", MAGIC - 1),
-        ("one more", MAGIC + 1),
-        ("turned", 0xb1d1_d3c4),
-        ("its first byte other", MAGIC ^ 0x0100_0000),
-    ];
-    let rule = rule(WRONG_MAGIC, name).passes("c4d3d1b1", |_: &mut Plan| {});
-    changed.into_iter().fold(rule, |rule, (value, magic)| {
-        rule.breaks(value, move |plan: &mut Plan| plan.magics[file] = magic)
+/// The index sets the byte order.
+fn index_magic() -> Rule<Plan> {
+    let mut rule =
+        no_magic(rule(WRONG_MAGIC, "the magic of the index, read little-endian, is c4d3d1b1 or b1d1d3c4"), 0);
+    for byte_order in ByteOrder::BOTH {
+        rule = rule.passes(hex(magic(byte_order)), move |plan| plan.write_in([byte_order; 3]));
+    }
+    rule
+}
+
+/// A later file has the index's byte order, and so has its magic.
+fn later_magic(name: &'static str, file: usize) -> Rule<Plan> {
+    let mut rule = no_magic(rule(WRONG_MAGIC, name), file);
+    for byte_order in ByteOrder::BOTH {
+        let [own, other] = [byte_order, byte_order.other()].map(magic).map(hex);
+        rule = rule.passes(format!("{own} in each"), move |plan| plan.write_in([byte_order; 3])).breaks(
+            format!("{other} behind {own}"),
+            move |plan| {
+                plan.magics[..file].fill(magic(byte_order));
+                plan.magics[file] = magic(byte_order.other());
+            },
+        );
+    }
+    rule
+}
+
+/// A magic as the documents write it.
+fn hex(magic: i128) -> String {
+    format!("{magic:x}")
+}
+
+/// Numbers that are neither magic, put into a file.
+fn no_magic(rule: Rule<Plan>, file: usize) -> Rule<Plan> {
+    let near = |magic: i128| [magic - 1, magic + 1, magic ^ 0x0100_0000];
+    let numbers = [MAGIC, TURNED_MAGIC].into_iter().flat_map(near);
+    let rule = rule.farther(move |plan, rng| plan.magics[file] = other_magic(rng));
+    numbers.fold(rule, |rule, number| {
+        rule.breaks(hex(number), move |plan: &mut Plan| plan.magics[file] = number)
     })
+}
+
+/// Either magic with one byte changed.
+fn other_magic(rng: &mut Rng) -> i128 {
+    let change = rng.between(1, 255) as i128;
+    *rng.pick(&[MAGIC, TURNED_MAGIC]) ^ (change << (8 * rng.below(4)))
 }
 
 /// Tags, alphabet, flags and count.

@@ -2,15 +2,17 @@
 
 use super::rng::Rng;
 use super::runs;
-use crate::dsqdata::MAGIC;
-use crate::fields::little_bytes;
+use super::turned::Files;
+use crate::dsqdata::{MAGIC, TURNED_MAGIC};
+use crate::fields::{little_bytes, ByteOrder};
 use crate::packets::{residues_of, run_of};
 use crate::residues::Alphabet;
 
-/// A set. `longest` is of names, accessions, descriptions and sequences; a length given for a file cuts it; `at` is the
-/// sequence whose metadata gets a fault.
+/// A set. Each file has its byte order, and its magic as that reads little-endian. `longest` is of names, accessions,
+/// descriptions and sequences; a length given for a file cuts it; `at` is the sequence whose metadata gets a fault.
 #[derive(Clone, Debug)]
 pub struct Plan {
+    pub byte_orders: [ByteOrder; 3],
     pub magics: [i128; 3],
     pub tags: [i128; 3],
     pub alphabet: i128,
@@ -31,13 +33,14 @@ pub struct Plan {
     pub at: usize,
 }
 
-/// A metadata record in its parts; `closing` stands behind the description's NUL.
+/// A metadata record in its parts, and how many bytes its taxonomy id takes.
 #[derive(Clone, Debug)]
 pub struct Record {
     pub name: Vec<u8>,
     pub accession: Vec<u8>,
     pub description: Vec<u8>,
-    pub closing: Vec<u8>,
+    pub taxonomy_id: i128,
+    pub id_width: usize,
 }
 
 impl Record {
@@ -48,12 +51,14 @@ impl Record {
             name: word(lengths[0], rng),
             accession: if rng.chance(50) { vec![] } else { word(lengths[1], rng) },
             description: line(lengths[2], rng),
-            closing: little_bytes(taxonomy_id, 4),
+            taxonomy_id,
+            id_width: 4,
         }
     }
 
-    fn bytes(&self) -> Vec<u8> {
-        [&self.name[..], &[0], &self.accession, &[0], &self.description, &[0], &self.closing].concat()
+    fn bytes(&self, byte_order: ByteOrder) -> Vec<u8> {
+        let id = byte_order.bytes(self.taxonomy_id, self.id_width);
+        [&self.name[..], &[0], &self.accession, &[0], &self.description, &[0], &id].concat()
     }
 }
 
@@ -65,6 +70,14 @@ fn word(length: usize, rng: &mut Rng) -> Vec<u8> {
 /// A text without NUL and line feed.
 fn line(length: usize, rng: &mut Rng) -> Vec<u8> {
     (0..length).map(|_| *rng.pick(b"abc XYZ\t\r\x0b\x0c,.\x01\x80\xff")).collect()
+}
+
+/// The magic of a file, as it reads little-endian.
+pub fn magic(byte_order: ByteOrder) -> i128 {
+    match byte_order {
+        ByteOrder::Little => MAGIC,
+        ByteOrder::Big => TURNED_MAGIC,
+    }
 }
 
 /// A tag that the three files of a set have.
@@ -84,18 +97,25 @@ fn run(alphabet: Alphabet, rng: &mut Rng) -> Vec<u32> {
 
 impl Plan {
     /// A valid set of n sequences.
-    pub fn by_chance(n: usize, rng: &mut Rng) -> Plan {
+    pub fn by_chance(n: usize, byte_order: ByteOrder, rng: &mut Rng) -> Plan {
         let (number, alphabet) = runs::alphabet(rng);
         let all: Vec<Vec<u32>> = (0..n).map(|_| run(alphabet, rng)).collect();
         let records: Vec<Record> = (0..n).map(|_| Record::by_chance(rng)).collect();
-        Plan::new(number as i128, &all, records, tag(rng))
+        Plan::new(number as i128, &all, records, tag(rng), byte_order)
     }
 
     /// A valid set of these runs and records.
-    pub fn new(alphabet: i128, runs: &[Vec<u32>], records: Vec<Record>, tag: i128) -> Plan {
+    pub fn new(
+        alphabet: i128,
+        runs: &[Vec<u32>],
+        records: Vec<Record>,
+        tag: i128,
+        byte_order: ByteOrder,
+    ) -> Plan {
         let lengths: Vec<i128> = runs.iter().map(|run| residues_of(run).len() as i128).collect();
         let mut plan = Plan {
-            magics: [MAGIC; 3],
+            byte_orders: [byte_order; 3],
+            magics: [magic(byte_order); 3],
             tags: [tag; 3],
             alphabet,
             flags: 0,
@@ -123,11 +143,18 @@ impl Plan {
         plan
     }
 
+    /// The same set with each file in this byte order.
+    pub fn write_in(&mut self, byte_orders: [ByteOrder; 3]) {
+        self.byte_orders = byte_orders;
+        self.magics = byte_orders.map(magic);
+        self.lay_out_metadata();
+    }
+
     /// The metadata body and its ends, from the records.
     pub fn lay_out_metadata(&mut self) {
         (self.metadata, self.metadata_ends) = (vec![], vec![]);
         for record in &self.records {
-            self.metadata.extend(record.bytes());
+            self.metadata.extend(record.bytes(self.byte_orders[1]));
             self.metadata_ends.push(self.metadata.len() as i128 - 1);
         }
     }
@@ -164,34 +191,44 @@ impl Plan {
         self.longest[3] = lengths.iter().copied().max().unwrap_or(0);
     }
 
-    pub fn index(&self) -> Vec<u8> {
-        let fours = [self.magics[0], self.tags[0], self.alphabet, self.flags];
-        let fours = fours.iter().chain(&self.longest[..3]);
-        let mut bytes: Vec<u8> = fours.flat_map(|field| little_bytes(*field, 4)).collect();
+    pub fn files(&self) -> Files {
+        [self.index(), self.metadata_file(), self.sequence_file()]
+    }
+
+    fn index(&self) -> Vec<u8> {
+        let byte_order = self.byte_orders[0];
+        let mut bytes = self.magic_and_tag(0);
+        for field in [self.alphabet, self.flags].iter().chain(&self.longest[..3]) {
+            bytes.extend(byte_order.bytes(*field, 4));
+        }
         for field in [self.longest[3], self.count, self.residues] {
-            bytes.extend(little_bytes(field, 8));
+            bytes.extend(byte_order.bytes(field, 8));
         }
         for (metadata, packets) in self.metadata_ends.iter().zip(&self.packet_ends) {
-            bytes.extend(little_bytes(*metadata, 8));
-            bytes.extend(little_bytes(*packets, 8));
+            bytes.extend(byte_order.bytes(*metadata, 8));
+            bytes.extend(byte_order.bytes(*packets, 8));
         }
         bytes.extend(&self.behind);
         cut(bytes, self.index_length)
     }
 
-    pub fn metadata_file(&self) -> Vec<u8> {
-        cut([header(self.magics[1], self.tags[1]), self.metadata.clone()].concat(), self.metadata_length)
+    fn metadata_file(&self) -> Vec<u8> {
+        cut([self.magic_and_tag(1), self.metadata.clone()].concat(), self.metadata_length)
     }
 
-    pub fn sequence_file(&self) -> Vec<u8> {
-        let body: Vec<u8> = self.packets.iter().flat_map(|packet| packet.to_le_bytes()).collect();
-        let bytes = [header(self.magics[2], self.tags[2]), body, self.odd.clone()].concat();
+    fn sequence_file(&self) -> Vec<u8> {
+        let mut bytes = self.magic_and_tag(2);
+        for packet in &self.packets {
+            bytes.extend(self.byte_orders[2].bytes(*packet as i128, 4));
+        }
+        bytes.extend(&self.odd);
         cut(bytes, self.sequence_length)
     }
-}
 
-fn header(magic: i128, tag: i128) -> Vec<u8> {
-    [little_bytes(magic, 4), little_bytes(tag, 4)].concat()
+    /// What each file begins with.
+    fn magic_and_tag(&self, file: usize) -> Vec<u8> {
+        [little_bytes(self.magics[file], 4), self.byte_orders[file].bytes(self.tags[file], 4)].concat()
+    }
 }
 
 /// The first bytes, where a length is given.

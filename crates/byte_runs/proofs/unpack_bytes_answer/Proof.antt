@@ -9,6 +9,7 @@ use denote.Ref.{now}
 use lib.ListN.{length}
 use Rattle.runs.specs.declared.UnpackAnswer.the-variants.{Unpacked}
 use Rattle.residues.specs.Alphabets.{isAlphabet}
+use Rattle.fields.specs.Number.{little}
 use Rattle.packets.specs.Runs.{wellFormed, unpacked}
 use Rattle.packets.specs.Reading.{runLength}
 use Rattle.packets.specs.Bytes.{packetsOf}
@@ -36,7 +37,7 @@ known : (c : tie.Else3) → isAlphabet (c .before .before .before .before .befor
 known c = sym (c .before .is-alphabet .ensures) ∙ not-false _ (c .if3 .left)
 
 read : (c : tie.After-read-run) → let s = c .before .before .before .before .before .before in c .read-run .result ≡ runLength (s .args .alphabet) (packets s)
-read c = c .read-run .ensures ∙ read-fits _ _ (c .before .before .before .before .if1 .left)
+read c = c .read-run .ensures ∙ read-fits little _ _ (c .before .before .before .before .if1 .left)
 
 formed : (c : tie.After-total) → let s = c .before .before .before .before .before .before .before .before in
     (wellFormed (s .args .alphabet) (packets s) ≡ true) × (c .total .given .0 .0 ≡ length (unpacked (packets s)))
@@ -82,7 +83,7 @@ returns-6 c =
     let f = formed (c .before .before) in
     let n = f .1 in
     ap (λ (l : ℕ). Unpacked (length (bytes s) / 4) l) n
-    ∙ ap (λ (m : ℕ). Unpacked m (length (unpacked (packets s)))) (sym (length-packets (bytes s)))
+    ∙ ap (λ (m : ℕ). Unpacked m (length (unpacked (packets s)))) (sym (length-packets little (bytes s)))
     ∙ sym (whole (c .before .before .before .before .before .before .before) ∙ run-done _ _ _
     (record { known = known (c .before .before .before .before .before); formed = f .0; fits = omega arith }))
 

@@ -16,7 +16,7 @@ enum-known-metadata-ends c = search needs
 returns : tie.Need-returns
 returns c =
     let a = (c .before .before .before .before .before .before .before .args) in
-    metadata-ends-stopped (now (a .index)) (now (a .metadata)) (now (a .sequence))
+    metadata-ends-stopped (a .order) (now (a .index)) (now (a .metadata)) (now (a .sequence))
     ((c .before .before .before .check-metadata-ends) .ensures) ((c .before .metadata-ends) .given .1)
 
 enum-told : tie.Need-enum-told
@@ -31,7 +31,7 @@ enum-known-packet-ends c = search needs
 returns-2 : tie.Need-returns-2
 returns-2 c =
     let a = (c .before .before .before .before .before .before .before .before .before .before .args) in
-    packet-ends-stopped (now (a .index)) (now (a .metadata)) (now (a .sequence))
+    packet-ends-stopped (a .order) (now (a .index)) (now (a .metadata)) (now (a .sequence))
     ((c .before .before .before .before .before .before .check-metadata-ends) .ensures) ((c .before .before .before .before .enum-told) .given .1)
     ((c .before .before .before .check-packet-ends) .ensures) ((c .before .packet-ends) .given .1)
 
@@ -42,8 +42,8 @@ check-runs-requires : tie.Need-check-runs-requires
 check-runs-requires c κs =
     let a = (c .before .before .before .before .before .before .before .before .before .args) in
     let p = (c .before .before .before .before .before .before .before .before .before .pre) in
-    let h = all-hold (packetEndsRules (now (a .index)) (now (a .sequence))) _ ((c .before .before .check-packet-ends) .ensures) ((c .enum-told2) .given .1) in
-    ((few-of (now (a .index)) (p .0) (p .1), p .2), rw (p .0) h)
+    let h = all-hold (packetEndsRules (a .order) (now (a .index)) (now (a .sequence))) _ ((c .before .before .check-packet-ends) .ensures) ((c .enum-told2) .given .1) in
+    ((few-of (a .order) (now (a .index)) (p .0) (p .1), p .2), rw (p .0) h)
 
 enum-known-runs : tie.Need-enum-known-runs
 enum-known-runs c = search needs
@@ -59,7 +59,7 @@ check-rest-requires c κs =
 returns-3 : tie.Need-returns-3
 returns-3 c =
     let a = (c .before .before .before .before .before .before .before .before .before .before .before .before .before .args) in
-    runs-stopped (now (a .index)) (now (a .metadata)) (now (a .sequence))
+    runs-stopped (a .order) (now (a .index)) (now (a .metadata)) (now (a .sequence))
     ((c .before .before .before .before .before .before .before .before .before .check-metadata-ends) .ensures)
     ((c .before .before .before .before .before .before .before .enum-told) .given .1)
     ((c .before .before .before .before .before .before .check-packet-ends) .ensures) ((c .before .before .before .before .enum-told2) .given .1)
@@ -69,7 +69,7 @@ returns-3 c =
 returns-4 : tie.Need-returns-4
 returns-4 c =
     let a = (c .before .before .before .before .before .before .before .before .before .before .before .before .before .before .args) in
-    content-passed (now (a .index)) (now (a .metadata)) (now (a .sequence))
+    content-passed (a .order) (now (a .index)) (now (a .metadata)) (now (a .sequence))
     ((c .before .before .before .before .before .before .before .before .before .before .check-metadata-ends) .ensures)
     ((c .before .before .before .before .before .before .before .before .enum-told) .given .1)
     ((c .before .before .before .before .before .before .before .check-packet-ends) .ensures)

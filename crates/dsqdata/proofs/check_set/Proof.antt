@@ -5,6 +5,9 @@ use borrow.Author.Needs.{needs}
 use Rattle.dsqdata.proofs.check_set.Statement.{statement}
 use Rattle.dsqdata.proofs.check_set.Tie as tie
 
+order-of-requires : tie.Need-order-of-requires
+order-of-requires c κs = search needs
+
 check-files-requires : tie.Need-check-files-requires
 check-files-requires c κs = search needs
 
@@ -13,8 +16,9 @@ enum-known-files c = search needs
 
 returns : tie.Need-returns
 returns c =
-    let a = (c .before .before .before .before .before .before .before .args) in
-    files-stopped (now (a .index)) (now (a .metadata)) (now (a .sequence))
+    let o = c .before .before .before .before in
+    let a = o .before .before .before .before .args in
+    files-stopped (o .order-of .result) (now (a .index)) (now (a .metadata)) (now (a .sequence)) (o .order-of .ensures)
     ((c .before .before .before .check-files) .ensures) ((c .before .files) .given .1)
 
 enum-told : tie.Need-enum-told
@@ -31,8 +35,9 @@ enum-known-layout c = search needs
 
 returns-2 : tie.Need-returns-2
 returns-2 c =
-    let a = (c .before .before .before .before .before .before .before .before .before .before .before .args) in
-    layout-stopped (now (a .index)) (now (a .metadata)) (now (a .sequence))
+    let o = c .before .before .before .before .before .before .before .before in
+    let a = o .before .before .before .before .args in
+    layout-stopped (o .order-of .result) (now (a .index)) (now (a .metadata)) (now (a .sequence)) (o .order-of .ensures)
     ((c .before .before .before .before .before .before .before .check-files) .ensures) ((c .before .before .before .before .before .enum-told) .given .1)
     ((c .before .before .before .check-layout) .ensures) ((c .before .layout) .given .1)
 
@@ -41,19 +46,21 @@ enum-told-2 c = search needs
 
 check-content-requires : tie.Need-check-content-requires
 check-content-requires c κs =
-    let a = (c .before .before .before .before .before .before .before .before .before .before .args) in
-    let b = set-bounds (now (a .index)) (now (a .metadata)) (now (a .sequence))
+    let o = c .before .before .before .before .before .before .before in
+    let a = o .before .before .before .before .args in
+    let w = set-bounds (o .order-of .result) (now (a .index)) (now (a .metadata)) (now (a .sequence)) (o .order-of .ensures)
     ((c .before .before .before .before .before .before .check-files) .ensures) ((c .before .before .before .before .enum-told) .given .1)
     ((c .before .before .check-layout) .ensures) ((c .enum-told2) .given .1) in
-    ((c .before .before .before .read-record) .ensures, b .0, b .1)
+    ((c .before .before .before .read-record) .ensures, w .0, w .1)
 
 enum-known-content : tie.Need-enum-known-content
 enum-known-content c = search needs
 
 returns-3 : tie.Need-returns-3
 returns-3 c =
-    let a = (c .before .before .before .before .before .before .before .before .before .before .before .before .before .before .args) in
-    content-stopped (now (a .index)) (now (a .metadata)) (now (a .sequence))
+    let o = c .before .before .before .before .before .before .before .before .before .before .before in
+    let a = o .before .before .before .before .args in
+    content-stopped (o .order-of .result) (now (a .index)) (now (a .metadata)) (now (a .sequence)) (o .order-of .ensures)
     ((c .before .before .before .before .before .before .before .before .before .before .check-files) .ensures)
     ((c .before .before .before .before .before .before .before .before .enum-told) .given .1)
     ((c .before .before .before .before .before .before .check-layout) .ensures) ((c .before .before .before .before .enum-told2) .given .1)
@@ -64,8 +71,9 @@ enum-told-3 c = search needs
 
 returns-4 : tie.Need-returns-4
 returns-4 c =
-    let a = (c .before .before .before .before .before .before .before .before .before .before .before .before .before .args) in
-    set-passed (now (a .index)) (now (a .metadata)) (now (a .sequence))
+    let o = c .before .before .before .before .before .before .before .before .before .before in
+    let a = o .before .before .before .before .args in
+    set-passed (o .order-of .result) (now (a .index)) (now (a .metadata)) (now (a .sequence)) (o .order-of .ensures)
     ((c .before .before .before .before .before .before .before .before .before .check-files) .ensures)
     ((c .before .before .before .before .before .before .before .enum-told) .given .1)
     ((c .before .before .before .before .before .check-layout) .ensures) ((c .before .before .before .enum-told2) .given .1)
@@ -75,6 +83,7 @@ pub check-set-spec : {M : Type 1} → statement M
 check-set-spec =
     tie.close
     (tie.spec
+    order-of-requires
     check-files-requires
     enum-known-files
     returns

@@ -16,7 +16,7 @@ metadata-end-requires c κs = search needs
 sub-bytes : tie.Need-sub-bytes
 sub-bytes c =
     let a = (c .before .before .before .before .before .args) in
-    let l = part-rises (now (a .index)) metadataTable (a .k) ((c .before .before .before .before .before .pre) .1 .0) in
+    let l = part-rises (a .order) (now (a .index)) metadataTable (a .k) ((c .before .before .before .before .before .pre) .1 .0) in
     omega (arith, l, (c .before .before .before .metadata-start) .ensures, (c .before .before .metadata-end) .ensures .0)
 
 run-start-requires : tie.Need-run-start-requires
@@ -28,7 +28,7 @@ run-end-requires c κs = search needs
 sub-packets : tie.Need-sub-packets
 sub-packets c =
     let a = (c .before .before .before .before .before .before .before .before .before .args) in
-    let l = part-rises (now (a .index)) packetTable (a .k) ((c .before .before .before .before .before .before .before .before .before .pre) .1 .1) in
+    let l = part-rises (a .order) (now (a .index)) packetTable (a .k) ((c .before .before .before .before .before .before .before .before .before .pre) .1 .1) in
     omega (arith, l, (c .before .before .before .run-start) .ensures, (c .before .before .run-end) .ensures)
 
 returns : tie.Need-returns

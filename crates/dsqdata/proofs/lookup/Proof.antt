@@ -89,8 +89,8 @@ found-at-requires c κs =
     let a = p .before .before .before .before .before .before .before .before .before .before .args in (
       few (p .before .before .before),
       (
-        all-hold (partRules (now (a .index)) metadataTable (a .number)) _ (p .before .before .check-part .ensures) (p .enum-told2 .given .1),
-        all-hold (partRules (now (a .index)) packetTable (a .number)) _ (c .before .before .check-part2 .ensures) (c .enum-told3 .given .1),
+        all-hold (partRules (a .set .order) (now (a .index)) metadataTable (a .number)) _ (p .before .before .check-part .ensures) (p .enum-told2 .given .1),
+        all-hold (partRules (a .set .order) (now (a .index)) packetTable (a .number)) _ (c .before .before .check-part2 .ensures) (c .enum-told3 .given .1),
       ),
     )
 

@@ -18,7 +18,7 @@ sub-if1 c = search needs
 returns : tie.Need-returns
 returns c =
     let a = (c .before .before .args) in
-    short-record (now (a .file)) (a .from) (a .to) (a .n) (a .a) (omega (arith, (c .before .before .pre), (c .if1) .taken))
+    short-record (a .order) (now (a .file)) (a .from) (a .to) (a .n) (a .a) (omega (arith, (c .before .before .pre), (c .if1) .taken))
 
 sub-d : tie.Need-sub-d
 sub-d c = omega (arith, (c .if1) .left)
@@ -32,7 +32,7 @@ is-description-requires c κs = omega (arith, (c .if1) .left)
 returns-2 : tie.Need-returns-2
 returns-2 c =
     let a = (c .before .before .before .before .args) in
-    no-description (now (a .file)) (a .from) (a .to) (a .n) (a .a) (a .to - 5) (omega (arith, (c .before .before .if1) .left))
+    no-description (a .order) (now (a .file)) (a .from) (a .to) (a .n) (a .a) (a .to - 5) (omega (arith, (c .before .before .if1) .left))
     (sym ((c .before .is-description) .ensures) ∙ not-true _ ((c .if2) .taken))
 
 behind-description-requires : tie.Need-behind-description-requires
@@ -45,7 +45,7 @@ returns-3 : tie.Need-returns-3
 returns-3 c =
     let a = (c .before .before .before .before .before .args) in
     let l = (c .before .before .before .if1) .left in
-    let e = description-closed (now (a .file)) (a .from) (a .to) (a .n) (a .a) (a .to - 5) (omega (arith, l)) (omega (arith, l))
+    let e = description-closed (a .order) (now (a .file)) (a .from) (a .to) (a .n) (a .a) (a .to - 5) (omega (arith, l)) (omega (arith, l))
     (sym ((c .before .before .is-description) .ensures) ∙ not-false _ ((c .before .if2) .left)) in
     rw e ((c .behind-description) .ensures)
 

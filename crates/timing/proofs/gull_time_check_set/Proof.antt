@@ -25,11 +25,8 @@ number-requires-2 c κs = search needs
 returns : tie.Need-returns
 returns c =
     let a = (c .before .before .before .before .before .before .before .before .before .before .args) in
-    set-short (now (a .index)) (now (a .metadata)) (now (a .sequence)) (now (a .results)) _ _ ((c .number2) .ensures) (lt-leb 80 _ ((c .before .if1) .taken))
+    set-short (now (a .index)) (now (a .metadata)) (now (a .sequence)) (now (a .results)) _ _ ((c .number2) .ensures) (lt-leb 88 _ ((c .before .if1) .taken))
     (sym ((c .before .before .before .before .before .check-set) .ensures) ∙ (c .before .before .before .set) .given .1)
-
-cast-t13 : tie.Need-cast-t13
-cast-t13 c = search needs
 
 cast-t14 : tie.Need-cast-t14
 cast-t14 c = search needs
@@ -49,6 +46,12 @@ cast-t18 c = search needs
 cast-t19 : tie.Need-cast-t19
 cast-t19 c = search needs
 
+cast-t20 : tie.Need-cast-t20
+cast-t20 c = search needs
+
+order-number-requires : tie.Need-order-number-requires
+order-number-requires c κs = search needs
+
 slice-aggregate-put-results : tie.Need-slice-aggregate-put-results
 slice-aggregate-put-results c = search needs
 
@@ -66,11 +69,12 @@ same-length c = search needs
 
 returns-3 : tie.Need-returns-3
 returns-3 c =
-    let room = c .before .before .before .before .before .before .before .before .before .before .before .before in
+    let order = c .before .before .before .before .before in
+    let room = order .before .before .before .before .before .before .before .before in
     let told = room .before .before in
     let a = (told .before .before .before .before .before .before .before .args) in
-    set-passed (now (a .index)) (now (a .metadata)) (now (a .sequence)) (now (a .results)) _ _ (le-leb 80 _ ((room .if1) .left))
-    (sym ((told .before .before .check-set) .ensures) ∙ (told .set) .given .1) ((c .before .before .put-results) .ensures)
+    set-passed (now (a .index)) (now (a .metadata)) (now (a .sequence)) (now (a .results)) _ _ (le-leb 88 _ ((room .if1) .left))
+    (sym ((told .before .before .check-set) .ensures) ∙ (told .set) .given .1) (rw (← order .order-number .ensures) (c .before .before .put-results .ensures))
 
 pub gull-time-check-set-spec : {M : Type 1} → statement M
 gull-time-check-set-spec =
@@ -82,13 +86,14 @@ gull-time-check-set-spec =
     enum-known-set
     number-requires-2
     returns
-    cast-t13
     cast-t14
     cast-t15
     cast-t16
     cast-t17
     cast-t18
     cast-t19
+    cast-t20
+    order-number-requires
     slice-aggregate-put-results
     put-results-requires
     returns-2

@@ -4,6 +4,7 @@ use crate::lent::Lent;
 use crate::library;
 use crate::nucleotides::write_line;
 use crate::page::page_line;
+use crate::sets::set_line;
 use second::call::*;
 use second::stream::hex;
 
@@ -13,6 +14,7 @@ pub fn library_line(call: &Call, shift: usize) -> String {
         CONSOLE_PACK => pack_line(call, shift),
         CONSOLE_UNPACK => unpack_line(call, shift),
         CONSOLE_VOLUME_CHECK => volume_line(call, shift),
+        SET_CHECK => set_line(call, shift),
         PAGE => page_line(call, shift),
         WRITE_NUCLEOTIDES => write_line(call, shift),
         other => panic!("no C function takes the cases of call {other}"),

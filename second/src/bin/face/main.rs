@@ -1,6 +1,6 @@
 //! `face [--seed N] [--count N] [--samples DIR]`: calls the static library's C functions directly, and the timing library's
-//! page and writing of nucleotides, with guard bytes around every lent range, on the cases of `compare` and on ranges too
-//! large for its protocol; of decoding, only those.
+//! set check, page and writing of nucleotides, with guard bytes around every lent range, on the cases of `compare` and on
+//! ranges too large for its protocol; of decoding, only those.
 
 mod chromosomes;
 mod large;
@@ -10,6 +10,7 @@ mod lines;
 mod long;
 mod nucleotides;
 mod page;
+mod sets;
 mod timing;
 
 use second::call::*;
@@ -27,7 +28,7 @@ fn calls(large: Large) -> impl Iterator<Item = u8> {
 
 /// Whether a C function takes all cases of a call, and not only ranges that are too large.
 fn takes_cases(byte: u8) -> bool {
-    [PAGE, WRITE_NUCLEOTIDES].contains(&byte) || calls(Large::CFunction).any(|other| other == byte)
+    [SET_CHECK, PAGE, WRITE_NUCLEOTIDES].contains(&byte) || calls(Large::CFunction).any(|other| other == byte)
 }
 
 /// All cases of one call, and its large ranges.
@@ -40,6 +41,7 @@ fn outcome(byte: u8, options: &Options, samples: &samples::Samples, large: &[u8]
         CONSOLE_PACK => large::pack(&mut outcome, large)?,
         CONSOLE_UNPACK => large::unpack(&mut outcome, large)?,
         CONSOLE_VOLUME_CHECK => large::check_volume(&mut outcome, large),
+        SET_CHECK => sets::large(&mut outcome, large),
         PAGE => page::large(&mut outcome, large),
         WRITE_NUCLEOTIDES => long::large(&mut outcome, large)?,
         other => return Err(format!("no C function takes the cases of call {other}")),
@@ -51,7 +53,6 @@ fn outcome(byte: u8, options: &Options, samples: &samples::Samples, large: &[u8]
 fn timed(byte: u8, options: &Options, large: &[u8]) -> Result<Outcome, String> {
     let mut outcome = Outcome::default();
     match byte {
-        SET_CHECK => timing::check_set_large(&mut outcome, large),
         DECODE => {
             timing::decode_large(&mut outcome, large);
             chromosomes::long(&mut outcome, options.seed);

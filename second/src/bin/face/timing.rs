@@ -1,25 +1,13 @@
-//! Number 22 of calls that the C face lacks and the timing library exports. Of the page and of
-//! writing nucleotides it takes every case: see `page` and `nucleotides`; of decoding, long sequences: see `chromosomes`.
+//! Decoding through the timing library: its number 22. Long sequences stand in `chromosomes`; of the set check, the page and
+//! writing nucleotides that library takes every case: see `sets`, `page` and `nucleotides`.
 
 use crate::large::{files, NO_SEQUENCES};
-use second::call::{DECODE, SET_CHECK};
-use second::dsqdata::check_set;
+use second::call::DECODE;
 use second::outcome::Outcome;
 use second::sequence::decode;
 
 #[link(name = "timing", kind = "static")]
 extern "C" {
-    fn gull_time_check_set(
-        index: *const u8,
-        index_len: usize,
-        metadata: *const u8,
-        metadata_len: usize,
-        sequence: *const u8,
-        sequence_len: usize,
-        results: *mut u8,
-        results_len: usize,
-    ) -> u32;
-
     fn gull_time_decode(
         index: *const u8,
         index_len: usize,
@@ -31,37 +19,11 @@ extern "C" {
     ) -> u32;
 }
 
-/// A number, and whether the bytes lent for writing are as they were: every case here is a refusal.
-fn line(number: u32, lent: &[u8]) -> String {
+/// The number of a refusal, and whether the bytes lent for writing are as they were.
+pub fn refused_line(number: u32, lent: &[u8]) -> String {
     let touched =
         if lent.iter().all(|byte| *byte == 8) { "" } else { " and bytes lent for writing were changed" };
     format!("{number}{touched}")
-}
-
-/// Each file of a set. Zeros have the wrong magic.
-pub fn check_set_large(outcome: &mut Outcome, large: &[u8]) {
-    let magic_and_tag: &[u8] = &[0xb1, 0xd1, 0xd3, 0xc4, 0, 0, 0, 0];
-    let mut index = magic_and_tag.to_vec();
-    index.extend([3, 0, 0, 0]);
-    index.resize(52, 0);
-    for (files, case) in files(SET_CHECK, &[&index, magic_and_tag, magic_and_tag], &[14, 14, 14], large) {
-        let expected = check_set(files[0], files[1], files[2]).err().unwrap_or(0);
-        let mut results = [8u8; 80];
-        let [a, b, c] = [files[0], files[1], files[2]];
-        let found = unsafe {
-            gull_time_check_set(
-                a.as_ptr(),
-                a.len(),
-                b.as_ptr(),
-                b.len(),
-                c.as_ptr(),
-                c.len(),
-                results.as_mut_ptr(),
-                results.len(),
-            )
-        };
-        outcome.count(&case, &line(expected, &[]), line(found, &results));
-    }
 }
 
 /// Decoding. Every range is lent for the call alone, and none shares a byte with another.
@@ -85,6 +47,6 @@ pub fn decode_large(outcome: &mut Outcome, large: &[u8]) {
         let expected = decode(files[0], files[1], 0, &mut []).err().unwrap_or(0);
         let mut output = [8u8; 4];
         let found = time_decode(files[0], files[1], 0, &mut output);
-        outcome.count(&case, &line(expected, &[]), line(found, &output));
+        outcome.count(&case, &refused_line(expected, &[]), refused_line(found, &output));
     }
 }

@@ -18,12 +18,12 @@ two-at-requires c κs = search needs
 six-of-requires : tie.Need-six-of-requires
 six-of-requires c κs = six-codes (now ((c .before .before .before .args) .codes)) ((c .before .before .before .args) .at)
     ((c .before .before .before .pre) .0) ((c .before .before .before .pre) .1) ((c .before .four-at) .result) ((c .two-at) .result)
-    ((c .before .four-at) .ensures) ((c .two-at) .ensures)
+    ((c .before .four-at) .ensures .0) ((c .two-at) .ensures)
 
 returns : tie.Need-returns
 returns c = (c .six-of) .ensures ∙ six-packet (now ((c .before .before .before .before .args) .codes)) ((c .before .before .before .before .args) .at)
     ((c .before .before .before .before .pre) .0) ((c .before .before .before .before .pre) .1) ((c .before .before .four-at) .result)
-    ((c .before .two-at) .result) ((c .before .before .four-at) .ensures) ((c .before .two-at) .ensures)
+    ((c .before .two-at) .result) ((c .before .before .four-at) .ensures .0) ((c .before .two-at) .ensures)
 
 pub five-packet-spec : {M : Type 1} → statement M
 five-packet-spec =

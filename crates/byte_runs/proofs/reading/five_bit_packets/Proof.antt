@@ -3,7 +3,7 @@ use mathlib.Core.Path.{_≡_, refl, _∙_}
 use Prim.Native.Nat.{_≤_, _-_}
 use native.Mathlib.Omega.{arith}
 use denote.Ref.{now}
-use Rattle.packets.specs.Bytes.{packetsOf}
+use Rattle.packets.specs.Bytes.{packetsBy}
 use Rattle.packets.specs.Reading.{fiveBitTo}
 use Rattle.packets.proofs.Reading.{codes-fives, five-more}
 use borrow.Author.Needs.{needs}
@@ -11,16 +11,16 @@ use Rattle.byte_runs.proofs.reading.five_bit_packets.Statement.{stateme
 use Rattle.byte_runs.proofs.reading.five_bit_packets.Tie as tie
 
 abbrev Inv-loop : tie.InvT-loop
-Inv-loop bytes count fives₀ i₀ fives i = (i ≤ count) × (fives ≡ fiveBitTo (packetsOf bytes) i)
+Inv-loop order bytes count fives₀ i₀ fives i = (i ≤ count) × (fives ≡ fiveBitTo (packetsBy order bytes) i)
 
 abbrev μ-loop : tie.MeasureT-loop
-μ-loop bytes count fives₀ i₀ fives i = count - i
+μ-loop order bytes count fives₀ i₀ fives i = count - i
 
 loop-holds : tie.Need-loop-holds Inv-loop μ-loop
 loop-holds c = (omega arith, refl)
 
-packet-at-requires : tie.Need-packet-at-requires Inv-loop μ-loop
-packet-at-requires c κs = omega (arith, (c .before .before .before .pre) .0)
+packet-by-requires : tie.Need-packet-by-requires Inv-loop μ-loop
+packet-by-requires c κs = omega (arith, (c .before .before .before .pre) .0)
 
 add-fives : tie.Need-add-fives Inv-loop μ-loop
 add-fives c =
@@ -29,7 +29,7 @@ add-fives c =
       arith,
       (c .before .before .before .before .pre) .1,
       l .inv .1,
-      codes-fives (packetsOf (now ((c .before .before .before .before .args) .bytes)))
+      codes-fives (packetsBy (c .before .before .before .before .args .order) (now (c .before .before .before .before .args .bytes)))
           (l .i),
     )
 
@@ -42,8 +42,8 @@ loop-less c = search needs
 loop-again : tie.Need-loop-again Inv-loop μ-loop
 loop-again c =
     let l = (c .before .before .loop) in
-    let p = (c .packet-at) in
-    (omega arith, five-more (packetsOf (now ((c .before .before .before .before .args) .bytes))) (l .i) (p .result) (p .ensures) (l .fives) (l .inv .1))
+    let p = (c .packet-by) in
+    (omega arith, five-more (packetsBy (c .before .before .before .before .args .order) (now (c .before .before .before .before .args .bytes))) (l .i) (p .result) (p .ensures) (l .fives) (l .inv .1))
 
 returns : tie.Need-returns Inv-loop μ-loop
 returns c =
@@ -58,7 +58,7 @@ five-bit-packets-spec =
     Inv-loop
     μ-loop
     loop-holds
-    packet-at-requires
+    packet-by-requires
     add-fives
     add-i
     loop-less

@@ -2,7 +2,7 @@
 use mathlib.Core.Path.{sym}
 use native.Mathlib.Omega.{arith}
 use denote.Ref.{now}
-use Rattle.packets.specs.Bytes.{packetsOf}
+use Rattle.packets.specs.Bytes.{packetsBy}
 use Rattle.packets.proofs.Reading.{codes-amino, codes-fives}
 use borrow.Author.Needs.{needs}
 use Rattle.byte_runs.proofs.reading.inner_codes.Statement.{statement}
@@ -14,7 +14,7 @@ mul-result c = search needs
 returns : tie.Need-returns
 returns c =
     let a = (c .before .before .args) in
-    sym (codes-amino (a .alphabet) (packetsOf (now (a .bytes))) (a .count) ((c .if1) .taken) ((c .before .before .pre) .1))
+    sym (codes-amino (a .alphabet) (packetsBy (a .order) (now (a .bytes))) (a .count) ((c .if1) .taken) ((c .before .before .pre) .1))
 
 mul-result-2 : tie.Need-mul-result-2
 mul-result-2 c = search needs
@@ -31,12 +31,12 @@ mul-result-3 c = search needs
 sub-result : tie.Need-sub-result
 sub-result c =
     let a = (c .before .before .before .args) in
-    omega (arith, (c .five-bit-packets) .ensures, codes-fives (packetsOf (now (a .bytes))) (a .count))
+    omega (arith, (c .five-bit-packets) .ensures, codes-fives (packetsBy (a .order) (now (a .bytes))) (a .count))
 
 returns-2 : tie.Need-returns-2
 returns-2 c =
     let a = (c .before .before .before .args) in
-    omega (arith, (c .five-bit-packets) .ensures, codes-fives (packetsOf (now (a .bytes))) (a .count))
+    omega (arith, (c .five-bit-packets) .ensures, codes-fives (packetsBy (a .order) (now (a .bytes))) (a .count))
 
 pub inner-codes-spec : {M : Type 1} → statement M
 inner-codes-spec =

@@ -4,27 +4,28 @@ use Prim.Native.Nat.{_≤_, _-_}
 use native.Mathlib.Omega.{arith}
 use lib.Dec.{eqb}
 use denote.Ref.{now}
-use Rattle.packets.specs.Bytes.{packetsOf}
+use Rattle.packets.specs.Bytes.{packetsBy}
 use Rattle.packets.specs.Reading.{innerTo}
 use Rattle.packets.proofs.Reading.{inner-more}
+use Rattle.byte_runs.proofs.Stores.{word-packet}
 use borrow.Author.Needs.{needs}
 use Rattle.byte_runs.proofs.reading.inner_faults.Statement.{statement}
 use Rattle.byte_runs.proofs.reading.inner_faults.Tie as tie
 
 abbrev Inv-loop : tie.InvT-loop
-Inv-loop alphabet bytes count faults₀ i₀ faults i = (i ≤ count) × (eqb faults 0 ≡ innerTo alphabet (packetsOf bytes) i)
+Inv-loop order alphabet bytes count faults₀ i₀ faults i = (i ≤ count) × (eqb faults 0 ≡ innerTo alphabet (packetsBy order bytes) i)
 
 abbrev μ-loop : tie.MeasureT-loop
-μ-loop alphabet bytes count faults₀ i₀ faults i = count - i
+μ-loop order alphabet bytes count faults₀ i₀ faults i = count - i
 
 loop-holds : tie.Need-loop-holds Inv-loop μ-loop
 loop-holds c = (omega arith, refl)
 
-packet-at-requires : tie.Need-packet-at-requires Inv-loop μ-loop
-packet-at-requires c κs = omega (arith, (c .before .before .before .pre))
+word-at-requires : tie.Need-word-at-requires Inv-loop μ-loop
+word-at-requires c κs = omega (arith, (c .before .before .before .pre))
 
-inner-fault-requires : tie.Need-inner-fault-requires Inv-loop μ-loop
-inner-fault-requires c κs = search needs
+word-fault-requires : tie.Need-word-fault-requires Inv-loop μ-loop
+word-fault-requires c κs = search needs
 
 add-i : tie.Need-add-i Inv-loop μ-loop
 add-i c = search needs
@@ -36,9 +37,10 @@ loop-again : tie.Need-loop-again Inv-loop μ-loop
 loop-again c =
     let a = (c .before .before .before .before .before .args) in
     let l = (c .before .before .before .loop) in
-    let p = (c .before .packet-at) in
-    let f = (c .inner-fault) in
-    (omega arith, inner-more (packetsOf (now (a .bytes))) (l .i) (p .result) (p .ensures) (a .alphabet) (l .faults) (f .result) (l .inv .1) (f .ensures))
+    let p = (c .before .word-at) in
+    let f = (c .word-fault) in
+    let e = word-packet (a .order) (now (a .bytes)) (l .i) (p .result) (omega (arith, c .before .before .before .before .before .pre)) (p .ensures) in
+    (omega arith, inner-more (packetsBy (a .order) (now (a .bytes))) (l .i) _ e (a .alphabet) (l .faults) (f .result) (l .inv .1) (f .ensures))
 
 returns : tie.Need-returns Inv-loop μ-loop
 returns c =
@@ -53,8 +55,8 @@ inner-faults-spec =
     Inv-loop
     μ-loop
     loop-holds
-    packet-at-requires
-    inner-fault-requires
+    word-at-requires
+    word-fault-requires
     add-i
     loop-less
     loop-again

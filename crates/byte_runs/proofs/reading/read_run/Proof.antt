@@ -7,7 +7,7 @@ use native.Mathlib.Omega.{arith}
 use borrow.Author.Tests.{eq-eqb, ne-eqb, not-true, not-false}
 use lib.ListN.{length}
 use denote.Ref.{now}
-use Rattle.packets.specs.Bytes.{packetsOf}
+use Rattle.packets.specs.Bytes.{packetsBy}
 use Rattle.packets.specs.Reading.{innerTo, runLength}
 use Rattle.packets.proofs.Bytes.{length-packets}
 use Rattle.packets.proofs.Reading.{found-none, found-broken, found-open, found-most, found-run}
@@ -21,19 +21,19 @@ abbrev bytes : tie.Start → List ℕ
 bytes s = now (s .args .bytes)
 
 abbrev packets : tie.Start → List ℕ
-packets s = packetsOf (bytes s)
+packets s = packetsBy (s .args .order) (bytes s)
 
 -- the run decides, where the bytes are not too many
-fits : (c : tie.Else1) → let s = c .before .before in runLength (s .args .alphabet) (packets s) ≡ runIn (s .args .alphabet) (bytes s)
-fits c = sym (read-fits _ (bytes (c .before .before)) (c .if1 .left))
+fits : (c : tie.Else1) → let s = c .before .before in runLength (s .args .alphabet) (packets s) ≡ runIn (s .args .order) (s .args .alphabet) (bytes s)
+fits c = sym (read-fits _ _ (bytes (c .before .before)) (c .if1 .left))
 
 returns : tie.Need-returns
-returns c = let a = (c .before .before .args) in read-large (a .alphabet) (now (a .bytes)) ((c .if1) .taken)
+returns c = let a = (c .before .before .args) in read-large (a .order) (a .alphabet) (now (a .bytes)) ((c .if1) .taken)
 
 returns-2 : tie.Need-returns-2
 returns-2 c =
     let s = c .before .before .before in
-    found-none (s .args .alphabet) (packets s) (omega (arith, length-packets (bytes s))) ∙ fits (c .before)
+    found-none (s .args .alphabet) (packets s) (omega (arith, length-packets (s .args .order) (bytes s))) ∙ fits (c .before)
 
 -- no packet before the last has a fault
 no-fault : (c : tie.Else3) → let s = c .before .before .before .before .before in innerTo (s .args .alphabet) (packets s) (length (bytes s) / 4 - 1) ≡ true
@@ -41,7 +41,7 @@ no-fault c = let f = c .before .inner-faults in sym (f .ensures) ∙ eq-eqb (f .
 
 -- one packet stands behind those before the last
 last-is : (c : tie.Else2) → let s = c .before .before .before in length (bytes s) / 4 - 1 + 1 ≡ length (packets s)
-last-is c = omega (arith, length-packets (bytes (c .before .before .before)))
+last-is c = let s = c .before .before .before in omega (arith, length-packets (s .args .order) (bytes s))
 
 sub-last : tie.Need-sub-last
 sub-last c = search needs
@@ -54,8 +54,8 @@ returns-3 c =
     let f = c .before .inner-faults in
     found-broken _ _ _ (last-is (c .before .before)) (sym (f .ensures) ∙ ne-eqb (f .result) 0 (c .if3 .taken)) ∙ fits (c .before .before .before)
 
-packet-at-requires : tie.Need-packet-at-requires
-packet-at-requires c κs = search needs
+packet-by-requires : tie.Need-packet-by-requires
+packet-by-requires c κs = search needs
 
 is-last-requires : tie.Need-is-last-requires
 is-last-requires c κs = search needs
@@ -63,7 +63,7 @@ is-last-requires c κs = search needs
 returns-4 : tie.Need-returns-4
 returns-4 c =
     found-open _ _ _ (last-is (c .before .before .before .before .before)) (no-fault (c .before .before .before)) _
-    (c .before .before .packet-at .ensures) _ (c .before .is-last .ensures) (not-true _ (c .if4 .taken))
+    (c .before .before .packet-by .ensures) _ (c .before .is-last .ensures) (not-true _ (c .if4 .taken))
     ∙ fits (c .before .before .before .before .before .before)
 
 inner-codes-requires : tie.Need-inner-codes-requires
@@ -72,21 +72,21 @@ inner-codes-requires c κs = ((omega arith, omega arith), no-fault (c .before .b
 residue-count-requires : tie.Need-residue-count-requires
 residue-count-requires c κs = search needs
 
-add-t14 : tie.Need-add-t14
-add-t14 c =
+add-t15 : tie.Need-add-t15
+add-t15 c =
     let s = c .before .before .before .before .before .before .before .before .before .before in
     let m = c .before .inner-codes in
     let k = c .residue-count in
     let most = found-most (s .args .alphabet) (packets s) (length (bytes s) / 4 - 1)
     (last-is (c .before .before .before .before .before .before .before)) (no-fault (c .before .before .before .before .before)) _
-    (c .before .before .before .before .packet-at .ensures)
+    (c .before .before .before .before .packet-by .ensures)
     _ (c .before .before .before .is-last .ensures) (m .result) (k .result) (m .ensures) (k .ensures) in
-    omega (arith, length-packets (bytes s))
+    omega (arith, length-packets (s .args .order) (bytes s))
 
 returns-5 : tie.Need-returns-5
 returns-5 c =
     found-run _ _ _ (last-is (c .before .before .before .before .before .before .before)) (no-fault (c .before .before .before .before .before)) _
-    (c .before .before .before .before .packet-at .ensures) _ (c .before .before .before .is-last .ensures) _ _
+    (c .before .before .before .before .packet-by .ensures) _ (c .before .before .before .is-last .ensures) _ _
     (c .before .inner-codes .ensures) (c .residue-count .ensures) (not-false _ (c .before .before .if4 .left))
     ∙ fits (c .before .before .before .before .before .before .before .before)
 
@@ -99,10 +99,10 @@ read-run-spec =
     sub-last
     inner-faults-requires
     returns-3
-    packet-at-requires
+    packet-by-requires
     is-last-requires
     returns-4
     inner-codes-requires
     residue-count-requires
-    add-t14
+    add-t15
     returns-5)

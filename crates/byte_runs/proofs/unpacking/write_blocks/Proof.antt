@@ -8,6 +8,7 @@ use lib.ListN.{length, take, drop, length-drop}
 use denote.Ref.{now}
 use borrow.Author.Tests.{eqb-true}
 use Rattle.laws.specs.Writing.{Begun}
+use Rattle.fields.specs.Number.{little}
 use Rattle.packets.specs.Runs.{wellFormed, unpacked}
 use Rattle.packets.specs.Bytes.{packetsOf}
 use Rattle.packets.specs.Decoded.{codesFrom}
@@ -35,7 +36,7 @@ loop-holds c =
     (omega arith, sym (none-yet ps 0), begun-start ps 0 0 (length (unpacked ps)) (now ((c .before .before .args) .out)))
 
 mul-t10 : tie.Need-mul-t10 Inv-loop μ-loop
-mul-t10 c = omega (arith, (c .before .before .before .before .pre) .1, length-packets (now ((c .before .before .before .before .args) .bytes)))
+mul-t10 c = omega (arith, (c .before .before .before .before .pre) .1, length-packets little (now ((c .before .before .before .before .args) .bytes)))
 
 byte-of-requires : tie.Need-byte-of-requires Inv-loop μ-loop
 byte-of-requires c κs = search needs
@@ -45,7 +46,7 @@ sub-put-block c = omega (
   arith,
   (c .byte-of) .ensures,
   (c .before .before .before .before .before .pre) .1,
-  length-packets
+  length-packets little
       (now ((c .before .before .before .before .before .args) .bytes)),
 )
 
@@ -54,7 +55,7 @@ part-put-block-start c = omega (
   arith,
   (c .byte-of) .ensures,
   (c .before .before .before .before .before .pre) .1,
-  length-packets
+  length-packets little
       (now ((c .before .before .before .before .before .args) .bytes)),
 )
 
@@ -67,7 +68,7 @@ put-block-requires c κs =
     let l = (c .before .before .before .before .loop) in
     let b = now (a .bytes) in
     let ps = packetsOf b in
-    let n = length-packets b in
+    let n = length-packets little b in
     let s = (c .before .before .byte-of) .result .0 in
     let here : s ≡ 4 * (16 * l .i) = omega (
       arith,
@@ -105,7 +106,7 @@ loop-again c =
     let l = (c .before .before .before .before .before .before .before .loop) in
     let b = now (a .bytes) in
     let ps = packetsOf b in
-    let n = length-packets b in
+    let n = length-packets little b in
     let s = (c .before .before .before .before .before .byte-of) .result .0 in
     let here : s ≡ 4 * (16 * l .i) = omega (
       arith,

@@ -4,6 +4,7 @@ use Prim.Native.Nat.{ℕ, _+_, _*_, _-_, _/_, _≤_, _<_}
 use native.Mathlib.Omega.{arith}
 use lib.ListN.{length, drop}
 use denote.Ref.{now}
+use Rattle.fields.specs.Number.{little}
 use Rattle.packets.specs.Runs.{unpacked}
 use Rattle.packets.specs.Bytes.{packetsOf}
 use Rattle.packets.specs.Decoded.{codesFrom}
@@ -18,7 +19,7 @@ sub-block-count : tie.Need-sub-block-count
 sub-block-count c = omega (
   arith,
   well-some ((c .before .before .args) .alphabet) _ ((c .before .before .pre) .0),
-  length-packets
+  length-packets little
       (now ((c .before .before .args) .bytes)),
 )
 
@@ -27,7 +28,7 @@ block-count-requires c κs = search needs
 
 write-blocks-requires : tie.Need-write-blocks-requires
 write-blocks-requires c κs =
-    let e = length-packets (now ((c .before .before .before .before .args) .bytes)) in
+    let e = length-packets little (now ((c .before .before .before .before .args) .bytes)) in
     ((c .before .before .before .before .pre), rw e ((c .before .block-count) .ensures))
 
 mul-write-rest : tie.Need-mul-write-rest
@@ -39,7 +40,7 @@ write-rest-requires c κs =
     let ps = packetsOf (now (a .bytes)) in
     let n = 16 * (c .before .before .before .before .before .block-count) .result in
     let some = well-some (a .alphabet) ps ((c .before .before .before .before .before .before .before .before .pre) .0) in
-    let h : n < length ps = omega (arith, (c .before .before .before .before .before .block-count) .ensures, length-packets (now (a .bytes))) in (
+    let h : n < length ps = omega (arith, (c .before .before .before .before .before .block-count) .ensures, length-packets little (now (a .bytes))) in (
       ((c .before .before .before .before .before .before .before .before .pre) .0, h),
       omega (
         arith,
@@ -63,7 +64,7 @@ returns c =
     let h : n < length ps = omega (
       arith,
       (c .before .before .before .before .before .before .before .before .block-count) .ensures,
-      length-packets
+      length-packets little
           (now (a .bytes)),
     ) in
     (c .before .before .write-rest) .ensures

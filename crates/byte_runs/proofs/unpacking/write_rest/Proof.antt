@@ -5,6 +5,7 @@ use native.Mathlib.Omega.{arith}
 use lib.ListN.{length, drop, getD}
 use denote.Ref.{now}
 use Rattle.laws.specs.Writing.{writtenAt, Begun}
+use Rattle.fields.specs.Number.{little}
 use Rattle.packets.specs.Runs.{codesIn, residues, unpacked}
 use Rattle.packets.specs.Bytes.{packetsOf}
 use Rattle.packets.specs.Decoded.{codesFrom}
@@ -27,7 +28,7 @@ loop-holds : tie.Need-loop-holds Inv-loop μ-loop
 loop-holds c =
     let a = (c .before .before .args) in
     let ps = packetsOf (now (a .bytes)) in (
-      omega (arith, (c .before .before .pre) .0 .1, length-packets (now (a .bytes))),
+      omega (arith, (c .before .before .pre) .0 .1, length-packets little (now (a .bytes))),
       omega (arith, none-yet ps (a .from)),
       begun-start ps (a .from) (a .place) (a .place + length (unpacked (drop (a .from) ps))) (now (a .out)),
     )
@@ -56,7 +57,7 @@ put-one-requires c κs =
       l .inv .2 .size,
       behind-room (a .alphabet) ps ((c .before .before .before .before .before .before .pre) .0 .0) (a .from) (a .place) (now (a .out))
           ((c .before .before .before .before .before .before .pre) .1) (l .done) (p .result) (l .at)
-          (p .ensures) (l .inv .1) (l .out) (l .inv .2) (omega (arith, length-packets (now (a .bytes)))),
+          (p .ensures) (l .inv .1) (l .out) (l .inv .2) (omega (arith, length-packets little (now (a .bytes)))),
     )
 
 add-done : tie.Need-add-done Inv-loop μ-loop
@@ -72,7 +73,7 @@ loop-again c =
     let p = (c .before .before .before .before .packet-at) in
     let o = (c .before .before .put-one) in
     let ps = packetsOf (now (a .bytes)) in
-    let h : a .from + l .done + 1 < length ps = omega (arith, length-packets (now (a .bytes))) in (
+    let h : a .from + l .done + 1 < length ps = omega (arith, length-packets little (now (a .bytes))) in (
       omega arith,
       o .ensures .0
           ∙ omega (
@@ -107,7 +108,7 @@ returns c =
     let l = (c .before .before .before .before .before .before .loop) in
     let p = (c .before .before .before .before .packet-at2) in
     let ps = packetsOf (now (a .bytes)) in
-    let h : a .from + l .done + 1 ≡ length ps = omega (arith, length-packets (now (a .bytes))) in
+    let h : a .from + l .done + 1 ≡ length ps = omega (arith, length-packets little (now (a .bytes))) in
     (c .before .before .decode) .ensures
     ∙ residues-put (p .result) (l .at) (l .out) (residues (p .result)) refl
     (omega (

@@ -17,21 +17,21 @@ returns c =
     let a = (c .before .before .before .before .args) in
     let b = (c .before .before .end-before) in
     let e = (c .before .end-of) in
-    part-low (now (a .index)) (a .table) (a .k) (b .ok) (e .ok) (b .ensures) (e .ensures) ((c .if1) .taken)
+    part-low (a .order) (now (a .index)) (a .table) (a .k) (b .ok) (e .ok) (b .ensures) (e .ensures) ((c .if1) .taken)
 
 returns-2 : tie.Need-returns-2
 returns-2 c =
     let a = (c .before .before .before .before .before .args) in
     let b = (c .before .before .before .end-before) in
     let e = (c .before .before .end-of) in
-    part-falls (now (a .index)) (a .table) (a .k) (b .ok) (e .ok) (b .ensures) (e .ensures) ((c .before .if1) .left) (not-true _ ((c .if2) .taken))
+    part-falls (a .order) (now (a .index)) (a .table) (a .k) (b .ok) (e .ok) (b .ensures) (e .ensures) ((c .before .if1) .left) (not-true _ ((c .if2) .taken))
 
 returns-3 : tie.Need-returns-3
 returns-3 c =
     let a = (c .before .before .before .before .before .before .args) in
     let b = (c .before .before .before .before .end-before) in
     let e = (c .before .before .before .end-of) in
-    part-high (now (a .index)) (a .table) (a .k) (b .ok) (e .ok) (b .ensures) (e .ensures)
+    part-high (a .order) (now (a .index)) (a .table) (a .k) (b .ok) (e .ok) (b .ensures) (e .ensures)
     ((c .before .before .if1) .left) (not-false _ ((c .before .if2) .left)) ((c .if3) .taken)
 
 returns-4 : tie.Need-returns-4
@@ -39,7 +39,7 @@ returns-4 c =
     let a = (c .before .before .before .before .before .before .args) in
     let b = (c .before .before .before .before .end-before) in
     let e = (c .before .before .before .end-of) in
-    part-passed (now (a .index)) (a .table) (a .k) (b .ok) (e .ok) (b .ensures) (e .ensures)
+    part-passed (a .order) (now (a .index)) (a .table) (a .k) (b .ok) (e .ok) (b .ensures) (e .ensures)
     ((c .before .before .if1) .left) (not-false _ ((c .before .if2) .left)) ((c .if3) .left)
 
 pub check-part-spec : {M : Type 1} → statement M

@@ -14,7 +14,7 @@ enum-known-sizes c = search needs
 returns : tie.Need-returns
 returns c =
     let a = (c .before .before .before .before .before .before .before .args) in
-    sizes-stopped (now (a .index)) (now (a .metadata)) (now (a .sequence))
+    sizes-stopped (a .order) (now (a .index)) (now (a .metadata)) (now (a .sequence))
     ((c .before .before .before .check-sizes) .ensures) ((c .before .sizes) .given .1)
 
 enum-told : tie.Need-enum-told
@@ -29,7 +29,7 @@ enum-known-first c = search needs
 returns-2 : tie.Need-returns-2
 returns-2 c =
     let a = (c .before .before .before .before .before .before .before .before .before .before .args) in
-    index-stopped (now (a .index)) (now (a .metadata)) (now (a .sequence))
+    index-stopped (a .order) (now (a .index)) (now (a .metadata)) (now (a .sequence))
     ((c .before .before .before .before .before .before .check-sizes) .ensures) ((c .before .before .before .before .enum-told) .given .1)
     ((c .before .before .before .check-start) .ensures) ((c .before .first) .given .1)
 
@@ -45,7 +45,7 @@ enum-known-second c = search needs
 returns-3 : tie.Need-returns-3
 returns-3 c =
     let a = (c .before .before .before .before .before .before .before .before .before .before .before .before .before .args) in
-    metadata-stopped (now (a .index)) (now (a .metadata)) (now (a .sequence))
+    metadata-stopped (a .order) (now (a .index)) (now (a .metadata)) (now (a .sequence))
     ((c .before .before .before .before .before .before .before .before .before .check-sizes) .ensures)
     ((c .before .before .before .before .before .before .before .enum-told) .given .1)
     ((c .before .before .before .before .before .before .check-start) .ensures) ((c .before .before .before .before .enum-told2) .given .1)
@@ -63,7 +63,7 @@ enum-known-third c = search needs
 returns-4 : tie.Need-returns-4
 returns-4 c =
     let a = (c .before .before .before .before .before .before .before .before .before .before .before .before .before .before .before .before .args) in
-    sequence-stopped (now (a .index)) (now (a .metadata)) (now (a .sequence))
+    sequence-stopped (a .order) (now (a .index)) (now (a .metadata)) (now (a .sequence))
     ((c .before .before .before .before .before .before .before .before .before .before .before .before .check-sizes) .ensures)
     ((c .before .before .before .before .before .before .before .before .before .before .enum-told) .given .1)
     ((c .before .before .before .before .before .before .before .before .before .check-start) .ensures)
@@ -80,7 +80,7 @@ check-tags-requires c κs = search needs
 returns-5 : tie.Need-returns-5
 returns-5 c =
     let a = (c .before .before .before .before .before .before .before .before .before .before .before .before .before .before .before .before .args) in
-    files-passed (now (a .index)) (now (a .metadata)) (now (a .sequence))
+    files-passed (a .order) (now (a .index)) (now (a .metadata)) (now (a .sequence))
     ((c .before .before .before .before .before .before .before .before .before .before .before .before .check-sizes) .ensures)
     ((c .before .before .before .before .before .before .before .before .before .before .enum-told) .given .1)
     ((c .before .before .before .before .before .before .before .before .before .check-start) .ensures)

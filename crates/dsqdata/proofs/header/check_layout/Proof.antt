@@ -12,13 +12,13 @@ is-alphabet-requires c κs = search needs
 returns : tie.Need-returns
 returns c =
     let a = (c .before .before .before .before .args) in
-    alphabet-stopped (now (a .index)) (now (a .sequence)) (c .before .before .before .before .pre) ((c .before .is-alphabet) .ensures)
+    alphabet-stopped (a .order) (now (a .index)) (now (a .sequence)) (c .before .before .before .before .pre) ((c .before .is-alphabet) .ensures)
     (not-true _ ((c .if1) .taken))
 
 returns-2 : tie.Need-returns-2
 returns-2 c =
     let a = (c .before .before .before .before .before .before .args) in
-    flags-stopped (now (a .index)) (now (a .sequence)) (c .before .before .before .before .before .before .pre)
+    flags-stopped (a .order) (now (a .index)) (now (a .sequence)) (c .before .before .before .before .before .before .pre)
     ((c .before .before .before .is-alphabet) .ensures)
     (not-false _ ((c .before .before .if1) .left)) ((c .if2) .taken)
 
@@ -31,7 +31,7 @@ enum-known-counted c = search needs
 returns-3 : tie.Need-returns-3
 returns-3 c =
     let a = (c .before .before .before .before .before .before .before .before .before .before .args) in
-    count-stopped (now (a .index)) (now (a .sequence)) (c .before .before .before .before .before .before .before .before .before .before .pre)
+    count-stopped (a .order) (now (a .index)) (now (a .sequence)) (c .before .before .before .before .before .before .before .before .before .before .pre)
     ((c .before .before .before .before .before .before .before .is-alphabet) .ensures)
     (not-false _ ((c .before .before .before .before .before .before .if1) .left)) ((c .before .before .before .before .if2) .left)
     ((c .before .before .before .check-count) .ensures)
@@ -46,7 +46,7 @@ bytes-after-header-requires c κs = search needs
 returns-4 : tie.Need-returns-4
 returns-4 c =
     let a = (c .before .before .before .before .before .before .before .before .before .before .before .args) in
-    body-stopped (now (a .index)) (now (a .sequence)) (c .before .before .before .before .before .before .before .before .before .before .before .pre)
+    body-stopped (a .order) (now (a .index)) (now (a .sequence)) (c .before .before .before .before .before .before .before .before .before .before .before .pre)
     ((c .before .before .before .before .before .before .before .before .is-alphabet) .ensures)
     (not-false _ ((c .before .before .before .before .before .before .before .if1) .left)) ((c .before .before .before .before .before .if2) .left)
     ((c .before .before .before .before .check-count) .ensures)
@@ -55,7 +55,7 @@ returns-4 c =
 returns-5 : tie.Need-returns-5
 returns-5 c =
     let a = (c .before .before .before .before .before .before .before .before .before .before .before .args) in
-    layout-passed (now (a .index)) (now (a .sequence)) (c .before .before .before .before .before .before .before .before .before .before .before .pre)
+    layout-passed (a .order) (now (a .index)) (now (a .sequence)) (c .before .before .before .before .before .before .before .before .before .before .before .pre)
     ((c .before .before .before .before .before .before .before .before .is-alphabet) .ensures)
     (not-false _ ((c .before .before .before .before .before .before .before .if1) .left)) ((c .before .before .before .before .before .if2) .left)
     ((c .before .before .before .before .check-count) .ensures)

@@ -11,16 +11,16 @@ returns : tie.Need-returns
 unfolding startRules
 returns c = rw (lt-leb _ _ ((c .if1) .taken))
 
-field4-requires : tie.Need-field4-requires
-field4-requires c κs = search needs
+u32-at-requires : tie.Need-u32-at-requires
+u32-at-requires c κs = search needs
 
 returns-2 : tie.Need-returns-2
 unfolding startRules
-returns-2 c = rw (le-leb _ _ ((c .before .before .if1) .left), fields-differ ((c .before .field4) .ensures) refl ((c .if2) .taken))
+returns-2 c = rw (le-leb _ _ ((c .before .before .if1) .left), fields-differ ((c .before .u32-at) .ensures) refl ((c .if2) .taken))
 
 returns-3 : tie.Need-returns-3
 unfolding startRules
-returns-3 c = rw (le-leb _ _ ((c .before .before .if1) .left), fields-same ((c .before .field4) .ensures) refl ((c .if2) .left))
+returns-3 c = rw (le-leb _ _ ((c .before .before .if1) .left), fields-same ((c .before .u32-at) .ensures) refl ((c .if2) .left))
 
 pub check-start-spec : {M : Type 1} → statement M
-check-start-spec = tie.close (tie.spec returns field4-requires returns-2 returns-3)
+check-start-spec = tie.close (tie.spec returns u32-at-requires returns-2 returns-3)

@@ -21,19 +21,19 @@ use Rattle.dsqdata.proofs.records.check_records.Statement.{statement}
 use Rattle.dsqdata.proofs.records.check_records.Tie as tie
 
 abbrev Inv-loop : tie.InvT-loop
-Inv-loop index metadata n name₀ accession₀ description₀ from₀ k₀ name accession description from k = (k ≤ n)
-    × (from .0 ≡ metadataStart index k)
-    × (name ≡ largestTo (nameAt index metadata) k)
-    × (accession ≡ largestTo (accessionAt index metadata) k)
-    × (description ≡ largestTo (descriptionAt index metadata) k)
-    × AllHold (rulesTo (rulesOfRecord index metadata) k)
+Inv-loop order index metadata n name₀ accession₀ description₀ from₀ k₀ name accession description from k = (k ≤ n)
+    × (from .0 ≡ metadataStart order index k)
+    × (name ≡ largestTo (nameAt order index metadata) k)
+    × (accession ≡ largestTo (accessionAt order index metadata) k)
+    × (description ≡ largestTo (descriptionAt order index metadata) k)
+    × AllHold (rulesTo (rulesOfRecord order index metadata) k)
 
 abbrev μ-loop : tie.MeasureT-loop
-μ-loop index metadata n name₀ accession₀ description₀ from₀ k₀ name accession description from k = n - k
+μ-loop order index metadata n name₀ accession₀ description₀ from₀ k₀ name accession description from k = n - k
 
 loop-holds : tie.Need-loop-holds Inv-loop μ-loop
 loop-holds c =
-    let e = ap (λ (z : ℤ). 8 + after z) (end-zero (now ((c .before .before .args) .index)) metadataTable 0 refl) in
+    let e = ap (λ (z : ℤ). 8 + after z) (end-zero (c .before .before .args .order) (now (c .before .before .args .index)) metadataTable 0 refl) in
     (omega arith, sym e, refl, refl, refl, tt)
 
 record-end-requires : tie.Need-record-end-requires Inv-loop μ-loop
@@ -53,8 +53,8 @@ returns c =
     let a = (c .before .before .before .before .before .before .before .before .args) in
     let l = (c .before .before .before .before .before .loop) in
     let to = (c .before .before .before .record-end) .ensures in
-    records-bad (now (a .index)) (now (a .metadata)) (a .n) (l .k) (omega arith) (l .inv .5)
-    (record-read (now (a .index)) (now (a .metadata)) (l .k) (l .inv .1) to ((c .before .before .read-record) .ensures) ((c .enum-told) .given .1))
+    records-bad (a .order) (now (a .index)) (now (a .metadata)) (a .n) (l .k) (omega arith) (l .inv .5)
+    (record-read (a .order) (now (a .index)) (now (a .metadata)) (l .k) (l .inv .1) to ((c .before .before .read-record) .ensures) ((c .enum-told) .given .1))
 
 larger-requires : tie.Need-larger-requires Inv-loop μ-loop
 larger-requires c κs = search needs
@@ -79,20 +79,20 @@ loop-again c =
     let i = now (a .index) in
     let m = now (a .metadata) in
     let e = c .before .before .before .before in
-    let g : textsAt i m (l .k) ≡ Lengths _ _ _ = record-read i m (l .k) (l .inv .1) to (e .before .before .read-record .ensures) (e .a .given .1) in (
+    let g : textsAt (a .order) i m (l .k) ≡ Lengths _ _ _ = record-read (a .order) i m (l .k) (l .inv .1) to (e .before .before .read-record .ensures) (e .a .given .1) in (
       omega arith,
-      record-next i m (l .k) (l .inv .1) to,
-      (c .before .before .larger) .ensures ∙ largest-more (nameAt i m) (l .k) _ _ (l .inv .2) (texts-name g),
-      (c .before .larger2) .ensures ∙ largest-more (accessionAt i m) (l .k) _ _ (l .inv .3) (texts-accession g),
-      (c .larger3) .ensures ∙ largest-more (descriptionAt i m) (l .k) _ _ (l .inv .4) (texts-description g),
-      rules-more (rulesOfRecord i m) (l .k) (l .inv .5) (record-holds i m (l .k) g),
+      record-next (a .order) i m (l .k) (l .inv .1) to,
+      (c .before .before .larger) .ensures ∙ largest-more (nameAt (a .order) i m) (l .k) _ _ (l .inv .2) (texts-name g),
+      (c .before .larger2) .ensures ∙ largest-more (accessionAt (a .order) i m) (l .k) _ _ (l .inv .3) (texts-accession g),
+      (c .larger3) .ensures ∙ largest-more (descriptionAt (a .order) i m) (l .k) _ _ (l .inv .4) (texts-description g),
+      rules-more (rulesOfRecord (a .order) i m) (l .k) (l .inv .5) (record-holds (a .order) i m (l .k) g),
     )
 
 returns-2 : tie.Need-returns-2 Inv-loop μ-loop
 returns-2 c =
     let a = (c .before .before .before .before .args) in
     let l = (c .before .loop) in
-    records-done (now (a .index)) (now (a .metadata)) (a .n) (l .k) (l .inv .0) ((c .loop-test) .left)
+    records-done (a .order) (now (a .index)) (now (a .metadata)) (a .n) (l .k) (l .inv .0) ((c .loop-test) .left)
     (l .inv .2) (l .inv .3) (l .inv .4) (l .inv .5)
 
 pub check-records-spec : {M : Type 1} → statement M

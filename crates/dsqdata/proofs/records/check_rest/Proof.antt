@@ -6,7 +6,7 @@ use Rattle.dsqdata.proofs.records.check_rest.Statement.{statement}
 use Rattle.dsqdata.proofs.records.check_rest.Tie as tie
 
 check-records-requires : tie.Need-check-records-requires
-check-records-requires c κs = let e = c .before .before in few-of (now (e .args .index)) (e .pre .0) (e .pre .1)
+check-records-requires c κs = let e = c .before .before in few-of (e .args .order) (now (e .args .index)) (e .pre .0) (e .pre .1)
 
 enum-known-records : tie.Need-enum-known-records
 enum-known-records c = search needs
@@ -20,13 +20,13 @@ check-totals-requires c κs = search needs
 returns : tie.Need-returns
 returns c =
     let a = (c .before .before .before .before .before .before .args) in
-    records-stopped (now (a .index)) (now (a .metadata)) ((c .before .before .before .before .before .before .pre) .0) (a .residues) (a .longest)
+    records-stopped (a .order) (now (a .index)) (now (a .metadata)) ((c .before .before .before .before .before .before .pre) .0) (a .residues) (a .longest)
     ((c .before .before .before .check-records) .ensures) ((c .before .records) .given .1)
 
 returns-2 : tie.Need-returns-2
 returns-2 c =
     let a = (c .before .before .before .before .before .before .before .args) in
-    records-passed (now (a .index)) (now (a .metadata)) ((c .before .before .before .before .before .before .before .pre) .0) (a .residues) (a .longest)
+    records-passed (a .order) (now (a .index)) (now (a .metadata)) ((c .before .before .before .before .before .before .before .pre) .0) (a .residues) (a .longest)
     ((c .before .before .before .before .check-records) .ensures) ((c .before .before .records2) .given .1) ((c .check-totals) .ensures)
 
 pub check-rest-spec : {M : Type 1} → statement M

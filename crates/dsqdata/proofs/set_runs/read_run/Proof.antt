@@ -29,7 +29,7 @@ returns c =
     let p = (c .before .before .before .before .before .pre) in
     let b = (c .before .before .before .byte-of) in
     let e = (c .before .before .byte-of2) in
-    run-found (a .alphabet) (now (a .sequence)) (a .from .0) (a .to .0) (b .result .0) (e .result .0) (p .0) (p .1) (p .2) (b .ensures) (e .ensures)
+    run-found (a .order) (a .alphabet) (now (a .sequence)) (a .from .0) (a .to .0) (b .result .0) (e .result .0) (p .0) (p .1) (p .2) (b .ensures) (e .ensures)
     ((c .read-run) .result) ((c .read-run) .ensures)
 
 pub read-run-spec : {M : Type 1} → statement M
