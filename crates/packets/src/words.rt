@@ -9,7 +9,7 @@ ghost use Rattle.fields.specs.Written.{littleBytes};
 ghost use Rattle.packets.specs.Runs.{inner};
 
 // 0 where the big-endian packet of a word may stand in a nucleic run before its last. No byte is turned, but the mask and the two bits are,
-// so that a loop over such packets is as fast as over little-endian ones.
+// so that a loop over such packets is nearly as fast as over little-endian ones.
 fn turned_nucleic_fault(word: u32) -> u32
     ensures { λ r. ⌜ eqb r 0 ≡ inner 1 (number big (littleBytes 4 word)) ⌝ }
 {
