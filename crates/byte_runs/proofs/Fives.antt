@@ -8,20 +8,12 @@ use lib.ListN.{length, drop, getD}
 use lib.Seq.{getD-drop}
 use Rattle.laws.specs.Digits.{allBelow}
 use Rattle.laws.proofs.Digits.{below-at}
+use Rattle.laws.proofs.Numbers.{bytes-of}
 use Rattle.packets.specs.Packing.{fourFrom, fiveBitPart}
 use Rattle.packets.proofs.Filled.{code-inside, five-sum}
 use Rattle.byte_runs.specs.Packed.{SixCodes, sixPacket}
 
--- the bytes of a number
-pub four-bytes : (n a b c d : ℕ) → n ≡ a + b * 256 + c * 65536 + d * 16777216 → a < 256 → b < 256 → c < 256 → d < 256
-    → (n % 256 ≡ a) × (n / 256 % 256 ≡ b) × (n / 65536 % 256 ≡ c) × (n / 16777216 ≡ d)
-four-bytes n a b c d e ha hb hc hd =
-    let q₁ : n / 256 ≡ b + c * 256 + d * 65536 = omega arith in
-    let q₂ : n / 65536 ≡ c + d * 256 = omega arith in
-    let e₁ : (b + c * 256 + d * 65536) % 256 ≡ b = omega arith in
-    let e₂ : (c + d * 256) % 256 ≡ c = omega arith in
-    (omega arith, ap (λ (x : ℕ). x % 256) q₁ ∙ e₁, ap (λ (x : ℕ). x % 256) q₂ ∙ e₂, omega arith)
-
+-- the two bytes of a number
 two-bytes : (n a b : ℕ) → n ≡ a + b * 256 → a < 256 → b < 256 → (n % 256 ≡ a) × (n / 256 ≡ b)
 two-bytes n a b e ha hb = (omega arith, omega arith)
 
@@ -35,7 +27,7 @@ module _ (cs : List ℕ) (at : ℕ) (more : at + 6 ≤ length cs) (valid : allBe
 
   fours : (four % 256 ≡ getD cs at 0) × (four / 256 % 256 ≡ getD cs (at + 1) 0) × (four / 65536 % 256 ≡ getD cs (at + 2) 0) × (four / 16777216 ≡ getD cs
       (at + 3) 0)
-  fours = four-bytes four (getD cs at 0) (getD cs (at + 1) 0) (getD cs (at + 2) 0) (getD cs (at + 3) 0) f (byte at) (byte (at + 1)) (byte (at + 2)) (byte
+  fours = bytes-of four (getD cs at 0) (getD cs (at + 1) 0) (getD cs (at + 2) 0) (getD cs (at + 3) 0) f (byte at) (byte (at + 1)) (byte (at + 2)) (byte
       (at + 3))
 
   twos : (two % 256 ≡ getD cs (at + 4) 0) × (two / 256 ≡ getD cs (at + 4 + 1) 0)

@@ -1,5 +1,5 @@
 -- Packets as bytes at their places: read, and written one behind another. Assumes nothing.
-use mathlib.Core.Path.{_≡_, refl, sym, ap, _∙_}
+use mathlib.Core.Path.{_≡_, sym, ap, _∙_}
 use mathlib.Core.Bool.{true}
 use mathlib.Core.List.{List, [], _∷_, _++_}
 use Prim.Native.Nat.{ℕ, zero, suc, _+_, _*_, _-_, _/_, _%_, _^_, _≤_, _<_}
@@ -12,6 +12,7 @@ use Rattle.fields.specs.declared.Order.{Order}
 use Rattle.fields.specs.Number.{little, number, bytesAt}
 use Rattle.fields.specs.Written.{littleBytes}
 use Rattle.fields.proofs.Laws.{unsigned-bytes}
+use Rattle.fields.proofs.Turned.{little-back}
 use Rattle.packets.specs.Positions.{byteOf}
 use Rattle.packets.specs.Bytes.{packetsBy, packetsOf, bytesOf}
 use Rattle.packets.proofs.Bytes.{packets-at, bytes-cons, bytes-none, packets-bytes}
@@ -34,15 +35,6 @@ packet-put p place at bound out h k q =
     ∙ ap (λ (l : List ℕ). writtenAt (4 * place) l out) (sym (bytes-cons p [] ∙ ap (λ (l : List ℕ). littleBytes 4 p ++ l) bytes-none))
 
 -- ---- whole bytes are those of the packets that they stand for
-
--- a number's bytes, at any width
-little-back : (bytes : List ℕ) → allBelow 256 bytes ≡ true → littleBytes (length bytes) (number little bytes) ≡ bytes
-little-back [] v = refl
-little-back (x ∷ bytes) v =
-    let p = below-parts 256 x bytes v in
-    let here : (x + 256 * number little bytes) % 256 ≡ x = omega (arith, p .0) in
-    let behind : (x + 256 * number little bytes) / 256 ≡ number little bytes = omega (arith, p .0) in
-    rw (here, behind, little-back bytes (p .1))
 
 -- the packets of so many fours of bytes
 fours : (n : ℕ) (bytes : List ℕ) → length bytes ≡ 4 * n → allBelow 256 bytes ≡ true → (ps : List ℕ) × (allBelow (2 ^ 32) ps ≡ true) × (bytesOf ps ≡ bytes)

@@ -12,6 +12,7 @@ use lib.ListN.{length, take, drop, getD, length-drop}
 use lib.Seq.{getD-take, getD-drop, length-take-le, drop-drop}
 use Rattle.laws.specs.Places.{every}
 use Rattle.laws.proofs.Digits.{below-at, below-all}
+use Rattle.laws.proofs.Numbers.{bytes-of}
 use borrow.Rule.Slice.PartMut.{midOf}
 use Rattle.laws.proofs.Parts.{part-rest}
 use Rattle.laws.proofs.Places.{every-at, every-all}
@@ -21,7 +22,6 @@ use Rattle.packets.proofs.Bases.{quarters, bases-sum}
 use Rattle.packets.proofs.Faults.{or-none}
 use Rattle.packets.proofs.Packing.{plain-long, plain-below, below-plain}
 use Rattle.byte_runs.specs.Packed.{FourBases, moved, plainParts}
-use Rattle.byte_runs.proofs.Fives.{four-bytes}
 
 -- ---- four codes as one number
 
@@ -93,7 +93,7 @@ module _ (cs : List ℕ) (at : ℕ) (e : plain 15 (drop at cs) ≡ true) where
       let c₁ = code (i + 1) (omega arith) in
       let c₂ = code (i + 2) (omega arith) in
       let c₃ = code (i + 3) (omega arith) in
-      let b = four-bytes n (getD ds i 0) (getD ds (i + 1) 0) (getD ds (i + 2) 0) (getD ds (i + 3) 0) (f ∙ four-drop cs at i j q) (omega arith)
+      let b = bytes-of n (getD ds i 0) (getD ds (i + 1) 0) (getD ds (i + 2) 0) (getD ds (i + 3) 0) (f ∙ four-drop cs at i j q) (omega arith)
       (omega arith) (omega arith)
       (omega arith) in
       (omega (arith, b .0), omega (arith, b .1), omega (arith, b .2), omega (arith, b .3))

@@ -90,9 +90,9 @@ module _ (order : Order) where
         let n = magicOf order i in
         let e : magicOf (other order) (turnedIndex order i) ≡ n = sym (index-four 0 (omega arith) l) in
         unsigned-bytes (other order) 4 i 0
-        ∙ (ap (number (other order)) (field-bytes order i 0 bytes)
+        ∙ (ap (number (other order)) (field-bytes order 4 i 0 bytes)
         ∙ (bytes-swapped order n
-        ∙ (ap (number order) (sym (field-bytes (other order) (turnedIndex order i) 0 index-below ∙ ap (numberBytes (other order) 4) e))
+        ∙ (ap (number order) (sym (field-bytes (other order) 4 (turnedIndex order i) 0 index-below ∙ ap (numberBytes (other order) 4) e))
         ∙ sym (unsigned-bytes order 4 (turnedIndex order i) 0))))
 
     pub index-eight : (k : ℕ) → k < 3 + 2 * countOf order i → 28 + 8 * k + 8 ≤ length i

@@ -6,7 +6,7 @@ use mathlib.Core.Logic.{⊎-elim, _⊎_, inl, inr}
 use mathlib.Core.List.{List, [], _∷_, _++_, append-assoc}
 use Prim.Native.Nat.{ℕ, zero, suc, _+_, _*_, _/_, _%_, _^_, _≤_, _<_}
 use native.Mathlib.Omega.{arith}
-use native.Mathlib.Nat.{eq-or-lt-of-le, le-of-suc-le-suc}
+use native.Mathlib.Nat.{zero-mul, eq-or-lt-of-le, le-of-suc-le-suc}
 use lib.Dec.{leb}
 use lib.ListN.{length, getD, take, drop}
 use lib.Seq.{take-at, drop-at, length-take-le}
@@ -22,7 +22,7 @@ use Rattle.fields.specs.declared.Order.the-variants.{Big, Little}
 use Rattle.fields.specs.Number.{big, little, number, bytesAt, unsignedAt}
 use Rattle.fields.specs.Written.{littleBytes, numberBytes, numberPut}
 use Rattle.fields.specs.Turned.{other, turnedTo}
-use Rattle.fields.proofs.Laws.{unsigned-bytes, big-word, word-bytes, length-number, put-fits, put-not, length-put, number-back}
+use Rattle.fields.proofs.Laws.{unsigned-bytes, big-word, length-number, put-fits, put-not, length-put, number-back}
 
 -- ---- fields by their bytes
 
@@ -79,18 +79,26 @@ number-bytes-below : (order : Order) (w n : ℕ) → allBelow 256 (numberBytes o
 number-bytes-below Big w n = digits-below w n
 number-bytes-below Little w n = little-bytes-below w n
 
--- the four bytes of a field are those of its number, in either order
-pub field-bytes : (order : Order) (file : List ℕ) (at : ℕ) → allBelow 256 file ≡ true → bytesAt 4 file at 0 ≡ numberBytes order 4 (unsignedAt order 4 file at)
+-- bytes are those of the number that they write
+pub little-back : (bytes : List ℕ) → allBelow 256 bytes ≡ true → littleBytes (length bytes) (number little bytes) ≡ bytes
+little-back [] v = refl
+little-back (x ∷ bytes) v =
+    let p = below-parts 256 x bytes v in
+    let here : (x + 256 * number little bytes) % 256 ≡ x = omega (arith, p .0) in
+    let behind : (x + 256 * number little bytes) / 256 ≡ number little bytes = omega (arith, p .0) in
+    rw (here, behind, little-back bytes (p .1))
+
+number-bytes-back : (order : Order) (bytes : List ℕ) → allBelow 256 bytes ≡ true → numberBytes order (length bytes) (number order bytes) ≡ bytes
+number-bytes-back Big bytes v =
+    let z : 0 * 2 ^ (8 * length bytes) + value 8 0 bytes ≡ value 8 0 bytes = rw zero-mul (omega arith) in
+    rw z at (digits-value 8 0 bytes v)
+number-bytes-back Little bytes v = little-back bytes v
+
+-- so the bytes of a field are those of its number
+pub field-bytes : (order : Order) (w : ℕ) (file : List ℕ) (at : ℕ) → allBelow 256 file ≡ true → bytesAt w file at 0 ≡ numberBytes order w (unsignedAt order w file at)
 unfolding unsignedAt
-field-bytes Big file at e =
-    let b = digits-value 8 0 (bytesAt 4 file at 0) (bytesAt-below 4 file at 0 e) in
-    let z : 0 * 2 ^ (8 * 4) + value 8 0 (bytesAt 4 file at 0) ≡ value 8 0 (bytesAt 4 file at 0) = omega arith in
-    sym (rw z at b)
-field-bytes Little file at e =
-    let b : (k : ℕ) → getD file (at + k) 0 < 256 = λ k. below-at 256 (at + k) file (omega arith) e in
-    let n : number little (bytesAt 4 file at 0) ≡ getD file (at + 0) 0 + getD file (at + 1) 0 * 256 + getD file (at + 2) 0 * 65536 + getD file (at + 3) 0
-    * 16777216 = omega arith in
-    sym (rw (sym n) at (word-bytes _ _ _ _ (b 0) (b 1) (b 2) (b 3)))
+field-bytes order w file at e =
+    sym (rw (length-bytesAt w file at 0) at (number-bytes-back order (bytesAt w file at 0) (bytesAt-below w file at 0 e)))
 
 swapped : (n : ℕ) → number big (littleBytes 4 n) ≡ number little (digits 8 4 n)
 unfolding digits
@@ -100,7 +108,7 @@ swapped n =
     let g : n / 1 % 256 ≡ n % 256 = omega arith in
     sym (big-word (n % 256) (n / 256 % 256) (n / 256 / 256 % 256) (n / 256 / 256 / 256 % 256)) ∙ rw (e, f, g) (omega arith)
 
--- the bytes of a number in one order, read in the other
+-- four bytes of a number in one order, read in the other
 pub bytes-swapped : (order : Order) (n : ℕ) → number (other order) (numberBytes order 4 n) ≡ number order (numberBytes (other order) 4 n)
 bytes-swapped Big n = sym (swapped n)
 bytes-swapped Little n = swapped n

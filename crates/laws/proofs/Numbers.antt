@@ -1,5 +1,5 @@
--- Bounds of digits and of the larger of two numbers, a number with one digit more, and room behind a place. Assumes nothing.
-use mathlib.Core.Path.{_≡_, refl, sym, _∙_}
+-- Bounds of digits and of the larger of two numbers, a number with one digit more, room behind a place, and the bytes of a number. Assumes nothing.
+use mathlib.Core.Path.{_≡_, refl, sym, ap, _∙_}
 use mathlib.Core.Bool.{true, _&&_}
 use mathlib.Core.List.{List, [], _∷_, _++_}
 use Prim.Native.Nat.{ℕ, zero, suc, _+_, _-_, _*_, _/_, _%_, _^_, _≤_, _<_, max, min}
@@ -76,3 +76,13 @@ fits-behind place n room h =
     bool-cases (leb n (room - place))
     (λ e. e ∙ sym (le-leb (place + n) room (omega (arith, leb-true n (room - place) e))))
     (λ e. e ∙ sym (lt-leb (place + n) room (omega (arith, leb-false n (room - place) e))))
+
+-- the four bytes of a number, the lowest first
+pub bytes-of : (n a b c d : ℕ) → n ≡ a + b * 256 + c * 65536 + d * 16777216 → a < 256 → b < 256 → c < 256 → d < 256
+    → (n % 256 ≡ a) × (n / 256 % 256 ≡ b) × (n / 65536 % 256 ≡ c) × (n / 16777216 ≡ d)
+bytes-of n a b c d e ha hb hc hd =
+    let q₁ : n / 256 ≡ b + c * 256 + d * 65536 = omega arith in
+    let q₂ : n / 65536 ≡ c + d * 256 = omega arith in
+    let e₁ : (b + c * 256 + d * 65536) % 256 ≡ b = omega arith in
+    let e₂ : (c + d * 256) % 256 ≡ c = omega arith in
+    (omega arith, ap (λ (x : ℕ). x % 256) q₁ ∙ e₁, ap (λ (x : ℕ). x % 256) q₂ ∙ e₂, omega arith)

@@ -200,11 +200,12 @@ top-nucleic p h =
     (λ e. let q : p / 2147483648 % 2 ≡ 1 = eqb-true _ 1 e in rw e (ne-eqb (p / 2147483648) 0 (λ x. omega arith)))
     (λ e. let q : p / 2147483648 % 2 ≡ 1 → ⊥ = eqb-false _ 1 e in let z : p / 2147483648 ≡ 0 = omega arith in rw e (eq-eqb (p / 2147483648) 0 z))
 
-pub five-most : (p : ℕ) → bitAnd p 0x21084210 * (p / 1073741824 % 2) ≤ 0x21084210
-five-most p =
-    bool-cases (isFiveBit p)
-    (λ e. let q : p / 1073741824 % 2 ≡ 1 = eqb-true _ 1 e in rw (q, mul-one) (and-le-r p 0x21084210))
-    (λ e. let n = eqb-false (p / 1073741824 % 2) 1 e in let q : p / 1073741824 % 2 ≡ 0 = omega arith in rw (q, mul-zero) (omega arith))
+-- a mask's result times a bit
+pub masked-most : (x m b : ℕ) → b < 2 → bitAnd x m * b ≤ m
+masked-most x m b h =
+    bool-cases (eqb b 1)
+    (λ e. rw (eqb-true b 1 e, mul-one) (and-le-r x m))
+    (λ e. let z : b ≡ 0 = omega (arith, eqb-false b 1 e) in rw (z, mul-zero) (omega arith))
 
 -- the codes count where bit 30 is set
 five-part : (p : ℕ) → eqb (bitAnd p 0x21084210 * (p / 1073741824 % 2)) 0 ≡ cond (isFiveBit p) (allBelow 16 (digits 5 6 p)) true

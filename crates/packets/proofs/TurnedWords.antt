@@ -1,12 +1,13 @@
 -- A big-endian packet that may not stand before the last of a run, told by the word of its bytes. Assumes nothing.
 use mathlib.Core.Path.{_≡_, refl, sym, ap, _∙_}
 use mathlib.Core.Bool.{_&&_}
-use Prim.Native.Nat.{ℕ, _+_, _*_, _/_, _%_, _^_, _≤_, _<_}
+use Prim.Native.Nat.{ℕ, _+_, _*_, _/_, _%_, _^_, _<_}
 use native.Mathlib.Omega.{arith}
 use native.Mathlib.Nat.{mod-eq-of-lt, mul-one, mul-zero, zero-div}
 use borrow.Author.Tests.{eq-eqb, ne-eqb, eqb-true, eqb-false}
 use lib.Dec.{eqb}
 use lib.Bits.{bitAnd, bitOr, and-mod, and-shr, and-le-r}
+use Rattle.laws.proofs.Numbers.{bytes-of}
 use Rattle.laws.proofs.Tests.{bool-cases}
 use Rattle.fields.specs.Number.{big, number}
 use Rattle.fields.specs.Written.{littleBytes}
@@ -29,15 +30,6 @@ bit-none x y b h e =
 -- a byte of a mask's result
 byte-and : (x m j : ℕ) → bitAnd x m / 2 ^ j % 256 ≡ bitAnd (x / 2 ^ j % 256) (m / 2 ^ j % 256)
 byte-and x m j = ap (λ (n : ℕ). n % 256) (and-shr x m j) ∙ and-mod (x / 2 ^ j) (m / 2 ^ j) 8
-
--- the bytes of a number, one by one
-bytes-of : (a b c d p : ℕ) → a < 256 → b < 256 → c < 256 → d < 256 → p ≡ d + c * 256 + b * 65536 + a * 16777216
-    → (p / 2 ^ 0 % 256 ≡ d) × (p / 2 ^ 8 % 256 ≡ c) × (p / 2 ^ 16 % 256 ≡ b) × (p / 2 ^ 24 ≡ a)
-bytes-of a b c d p ha hb hc hd e =
-    let f : p / 256 ≡ c + 256 * (b + 256 * a) = omega arith in
-    let g : p / 65536 ≡ b + 256 * a = omega arith in
-    let h : p / 16777216 ≡ a = omega arith in
-    (omega arith, omega arith, omega arith, h)
 
 -- a number is 0 where all its bytes are
 last-none : (z n : ℕ) → z / 2 ^ n < 256 → z / 2 ^ n % 256 ≡ 0 → z / 2 ^ n ≡ 0
@@ -69,11 +61,10 @@ module _ (w : ℕ) (small : w < 2 ^ 32) where
   pub turned-small : turned < 2 ^ 32
   turned-small = omega (arith, turned-is)
 
-  turned-bytes : (turned / 2 ^ 0 % 256 ≡ w / 2 ^ 24) × (turned / 2 ^ 8 % 256 ≡ w / 2 ^ 16 % 256) × (turned / 2 ^ 16 % 256 ≡ w / 2 ^ 8 % 256)
-      × (turned / 2 ^ 24 ≡ w / 2 ^ 0 % 256)
+  turned-bytes : (turned % 256 ≡ w / 16777216) × (turned / 256 % 256 ≡ w / 65536 % 256) × (turned / 65536 % 256 ≡ w / 256 % 256)
+      × (turned / 16777216 ≡ w % 256)
   turned-bytes =
-      bytes-of (w / 2 ^ 0 % 256) (w / 2 ^ 8 % 256) (w / 2 ^ 16 % 256) (w / 2 ^ 24) turned (omega arith) (omega arith) (omega arith) (omega arith)
-      (turned-is ∙ omega arith)
+      bytes-of turned (w / 16777216) (w / 65536 % 256) (w / 256 % 256) (w % 256) turned-is (omega arith) (omega arith) (omega arith) (omega arith)
 
   -- a byte of the packet under its mask is that of the word under the turned one
   byte-turned : (m n i j : ℕ) → turned / 2 ^ i % 256 ≡ w / 2 ^ j % 256 → m / 2 ^ i % 256 ≡ n / 2 ^ j % 256
@@ -100,20 +91,14 @@ module _ (w : ℕ) (small : w < 2 ^ 32) where
   five-turned : turned / 1073741824 % 2 ≡ w / 64 % 2
   five-turned =
       let e : turned / 1073741824 ≡ turned / 16777216 / 64 = omega arith in
-      let f : turned / 16777216 ≡ w % 256 = omega (arith, turned-bytes .3) in
+      let f : turned / 16777216 ≡ w % 256 = turned-bytes .3 in
       rw (e, f) (omega arith)
 
   end-turned : turned / 2147483648 ≡ w / 128 % 2
   end-turned =
       let e : turned / 2147483648 ≡ turned / 16777216 / 128 = omega arith in
-      let f : turned / 16777216 ≡ w % 256 = omega (arith, turned-bytes .3) in
+      let f : turned / 16777216 ≡ w % 256 = turned-bytes .3 in
       rw (e, f) (omega arith)
-
-  pub turned-most : bitAnd w 0x10420821 * (w / 64 % 2) ≤ 0x10420821
-  turned-most =
-      bool-cases (eqb (w / 64 % 2) 1)
-      (λ e. rw (eqb-true (w / 64 % 2) 1 e, mul-one) (and-le-r w 0x10420821))
-      (λ e. let z : w / 64 % 2 ≡ 0 = omega (arith, eqb-false (w / 64 % 2) 1 e) in rw (z, mul-zero) (omega arith))
 
   pub turned-fault : eqb (bitOr (bitAnd w 0x10420821 * (w / 64 % 2)) (w / 128 % 2)) 0 ≡ inner 1 turned
   turned-fault =
