@@ -28,10 +28,10 @@ static const char *const help[] = {
     "  2  input or output failed, or wrong usage\n",
     NULL};
 
-/* A packet before the last holds six residues or more, and a run has at least one packet. */
+/* The most packets that so many residues take: the larger of 1 and a sixth of them, rounded up. */
 static size_t room(size_t input)
 {
-    return 4 * (input / 6 + 1);
+    return 4 * (input == 0 ? 1 : (input - 1) / 6 + 1);
 }
 
 static uint32_t call(uint32_t alphabet, const struct bytes *input, uint8_t *output, size_t room, uint8_t *results)

@@ -28,8 +28,8 @@ extern "C" {
 /* The version of this header and of the library and the programs beside it. */
 #define GULL_VERSION_MAJOR 0
 #define GULL_VERSION_MINOR 7
-#define GULL_VERSION_PATCH 0
-#define GULL_VERSION "0.7.0"
+#define GULL_VERSION_PATCH 1
+#define GULL_VERSION "0.7.1"
 
 /* Answers. */
 enum {
@@ -75,7 +75,10 @@ uint32_t gull_check_volume(const uint8_t *index, size_t index_len, const uint8_t
 /* Packs residue codes, one byte each, as one run of packets, into a buffer of little-endian packets, from a place on that is counted
  * in packets. A buffer of 4k to 4k+3 bytes has k packets; the other bytes of the buffer stay as they are.
  * Returns 22, 3, 18, 13 for the buffer, 13 where the results range is shorter than 16 bytes.
- * Results: the run's packets, its residues. A run takes at most one packet for each six residues, rounded up, and at least one. */
+ * Results: the run's packets, its residues.
+ * How many packets L residues take: amino, L/6 rounded up, and at least 1; RNA and DNA, at most that; where all codes are below 4 and
+ * L is above 0, exactly L/15 rounded down plus (L mod 15)/6 rounded up. No run of the same residues is shorter. A buffer that has so
+ * many from the place on is never refused; one that has fewer than the run takes is 13, unless 22, 3 or 18 comes first. */
 uint32_t gull_pack(uint32_t alphabet, const uint8_t *codes, size_t codes_len, uint8_t *packets, size_t packets_len,
                    uint64_t place, uint8_t *results, size_t results_len);
 

@@ -63,10 +63,15 @@ pub fn run_of(alphabet: Alphabet, codes: &[u8]) -> Vec<u32> {
 /// A packet of fifteen codes, or of at most six.
 fn packet_of(codes: &[u8]) -> Packet {
     if codes.len() == 15 {
-        Packet { ends_run: false, five_bit: false, fields: codes.to_vec() }
+        two_bit_packet(codes)
     } else {
         five_bit_packet(codes)
     }
+}
+
+/// A 2-bit packet of fifteen codes below 4.
+pub fn two_bit_packet(codes: &[u8]) -> Packet {
+    Packet { ends_run: false, five_bit: false, fields: codes.to_vec() }
 }
 
 /// A 5-bit packet of at most six codes, the rest filled with 31.
@@ -97,7 +102,7 @@ pub fn is_well_formed(alphabet: Alphabet, numbers: &[u32]) -> bool {
 }
 
 /// Whether a 31 stands where a residue could.
-fn has_filling(packet: &Packet) -> bool {
+pub fn has_filling(packet: &Packet) -> bool {
     packet.five_bit && packet.fields.contains(&NO_RESIDUE)
 }
 

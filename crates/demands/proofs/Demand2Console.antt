@@ -25,10 +25,10 @@ use Rattle.demands.proofs.Demand2Packets.{may-of, packs-unpacks, unpack
 
 -- a results range with room for two values
 module _ (results : List ℕ) (enough : 16 ≤ length results) where
-  two-fit : roomFor 2 (length results) ≡ true
+  pub two-fit : roomFor 2 (length results) ≡ true
   two-fit = le-leb 16 (length results) enough
 
-  two-told : (values : List ℕ) (packets residues : ℕ) → values ≡ packets ∷ residues ∷ []
+  pub two-told : (values : List ℕ) (packets residues : ℕ) → values ≡ packets ∷ residues ∷ []
       → resultsPut values results ≡ writtenAt 0 (resultBytes (packets ∷ residues ∷ [])) results
   two-told values packets residues e = rw e (put-room (packets ∷ residues ∷ []) results enough)
 

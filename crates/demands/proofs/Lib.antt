@@ -5,6 +5,7 @@ pub mod LargeFirst
 pub mod Table
 pub mod Demand2Packets
 pub mod Demand2Console
+pub mod Room
 pub mod Demand3
 pub mod Given
 pub mod Demand2

@@ -1,4 +1,5 @@
 pub mod Numbers
 pub mod Order
 pub mod Packets
+pub mod Room
 pub mod Cases

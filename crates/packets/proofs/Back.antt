@@ -16,7 +16,7 @@ use Rattle.laws.proofs.Digits.{length-digits, below-parts, value-digits}
 use Rattle.residues.specs.Alphabets.{isAmino, codeLimit}
 use Rattle.packets.specs.Packing.{plain, isTwoBit, filled, size, run}
 use Rattle.packets.specs.Runs.{endsRun, isFiveBit, beforeFill, residues, onlyFill, validTailed, inner, final, formed, wellFormed, unpacked}
-use Rattle.packets.proofs.Packing.{plain-short, plain-two, two-plain, amino-five, filled-whole, size-two}
+use Rattle.packets.proofs.Packing.{plain-two, amino-five, short-five, filled-whole, size-two}
 use Rattle.packets.proofs.Packing.{size-five, packet-two, packet-five, run-last, run-more}
 use Rattle.packets.proofs.Round.{formed-well, unpacked-cons, unpacked-nil}
 use Rattle.packets.proofs.Codes.{residues-five, residues-two}
@@ -51,9 +51,10 @@ plain-append (suc n) (x ∷ xs) ys e =
     let q = both-pass (ltb x 4) (plain n xs) e in
     rw (q .0) (plain-append n xs ys (q .1))
 
-short-five : (a : ℕ) (cs : List ℕ) → length cs < 15 → isTwoBit a cs ≡ false
-short-five a cs h =
-    bool-cases (isTwoBit a cs) (λ t. never (sym (plain-short 15 cs h) ∙ two-plain a cs t .1)) (λ f. f)
+-- where a 2-bit packet of a nucleic run stands, the rule too has a 2-bit packet
+pub two-again : (a p : ℕ) (rest : List ℕ) → isFiveBit p ≡ false → isAmino a ≡ false → isTwoBit a (residues p ++ rest) ≡ true
+two-again a p rest two nucleic =
+    plain-two a (residues p ++ rest) nucleic ∙ rw (residues-two p two) (plain-append 15 (digits 2 15 p) rest (two-plain-codes p two))
 
 -- ---- a number from its two highest bits and the rest
 
@@ -149,7 +150,7 @@ inner-back a p rest h e more apart = bool-cases (isFiveBit p) five two
         let l : length ds ≡ 15 = length-digits 2 15 p in
         let r : residues p ≡ ds = residues-two p t in
         let len : length (ds ++ rest) ≡ 15 + length rest = length-append ds rest ∙ ap (λ (n : ℕ). n + length rest) l in
-        let k : isTwoBit a (ds ++ rest) ≡ true = plain-two a (ds ++ rest) (inner-nucleic p t a e) ∙ plain-append 15 ds rest (two-plain-codes p t) in
+        let k : isTwoBit a (ds ++ rest) ≡ true = rw r at (two-again a p rest t (inner-nucleic p t a e)) in
         let z : size a (ds ++ rest) ≡ 15 = size-two a (ds ++ rest) (length (ds ++ rest)) k in
         let m : size a (ds ++ rest) < length (ds ++ rest) = omega arith in
         let long : leb (length (ds ++ rest)) 15 ≡ false = lt-leb (length (ds ++ rest)) 15 (omega arith) in

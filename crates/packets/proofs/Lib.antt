@@ -10,6 +10,7 @@ pub mod Round
 pub mod Shapes
 pub mod Back
 pub mod Lengths
+pub mod Shortest
 pub mod Reading
 pub mod Ends
 pub mod Bytes

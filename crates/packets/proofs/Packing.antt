@@ -113,6 +113,10 @@ amino-five a cs e = rw e
 pub two-long : (a : ℕ) (cs : List ℕ) → isTwoBit a cs ≡ true → 15 ≤ length cs
 two-long a cs e = plain-long 15 cs (two-plain a cs e .1)
 
+-- fewer than fifteen residues are never a 2-bit packet
+pub short-five : (a : ℕ) (cs : List ℕ) → length cs < 15 → isTwoBit a cs ≡ false
+short-five a cs h = bool-cases (isTwoBit a cs) (λ t. let z : ⊥ = omega (arith, two-long a cs t) in absurd z) (λ f. f)
+
 pub size-two : (a : ℕ) (cs : List ℕ) (left : ℕ) → isTwoBit a cs ≡ true → sizeOf a cs left ≡ 15
 unfolding sizeOf
 size-two a cs left e = rw e
@@ -133,11 +137,15 @@ size-most a cs =
     (λ t. omega (arith, size-two a cs (length cs) t))
     (λ f. omega (arith, size-five a cs (length cs) f))
 
-pub size-some : (a : ℕ) (cs : List ℕ) → 0 < length cs → 0 < size a cs
-size-some a cs h =
+-- up to six residues are taken together
+pub size-least : (a n : ℕ) (cs : List ℕ) → n ≤ 6 → n ≤ length cs → n ≤ size a cs
+size-least a n cs l h =
     bool-cases (isTwoBit a cs)
     (λ e. omega (arith, size-two a cs (length cs) e))
     (λ e. omega (arith, size-five a cs (length cs) e))
+
+pub size-some : (a : ℕ) (cs : List ℕ) → 0 < length cs → 0 < size a cs
+size-some a cs h = omega (arith, size-least a 1 cs (lit≤ tt) (omega arith))
 
 -- six residues are taken as long as there are six
 pub size-six : (a : ℕ) (cs : List ℕ) → size a cs < length cs → 6 ≤ size a cs

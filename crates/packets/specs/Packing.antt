@@ -3,7 +3,7 @@
 -- Assumes nothing.
 use mathlib.Core.Bool.{Bool, true, false, not, cond, _&&_}
 use mathlib.Core.List.{List, [], _∷_}
-use Prim.Native.Nat.{ℕ, zero, suc, pred, _+_, _*_, _/_, _^_, min, max}
+use Prim.Native.Nat.{ℕ, zero, suc, pred, _+_, _*_, _/_, _%_, _^_, min, max}
 use lib.Dec.{leb, ltb}
 use lib.ListN.{length, take, getD}
 use Rattle.laws.specs.Digits.{value}
@@ -73,6 +73,14 @@ later alphabet (suc k) (c ∷ codes) = later alphabet k codes
 unfoldable pub run : ℕ → List ℕ → List ℕ
 run alphabet codes = packet alphabet codes ∷ later alphabet (size alphabet codes) codes
 
--- How many packets take all residues where each takes six; no residues take one.
+-- n/6 rounded up.
+abbrev pub sixths : ℕ → ℕ
+sixths n = (n + 5) / 6
+
+-- How many packets take all residues where each takes six: the larger of 1 and L/6 rounded up.
 abbrev pub sixes : ℕ → ℕ
-sixes left = max 1 ((left + 5) / 6)
+sixes left = max 1 (sixths left)
+
+-- How many packets nucleic codes take that are all below 4, where there is one: L/15 rounded down plus (L mod 15)/6 rounded up.
+abbrev pub plainPackets : ℕ → ℕ
+plainPackets left = left / 15 + sixths (left % 15)

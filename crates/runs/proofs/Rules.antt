@@ -2,19 +2,22 @@
 use mathlib.Core.Path.{_≡_, _∙_}
 use mathlib.Core.Bool.{true}
 use mathlib.Core.List.{List}
-use Prim.Native.Nat.{ℕ, _≤_}
+use Prim.Native.Nat.{ℕ, _+_, _≤_, _<_}
+use native.Mathlib.Omega.{arith}
 use lib.Dec.{leb}
 use lib.ListN.{length}
-use borrow.Author.Tests.{le-leb, leb-true}
-use Rattle.laws.proofs.Tests.{both-pass}
+use borrow.Author.Tests.{le-leb, lt-leb, leb-true}
+use Rattle.laws.proofs.Tests.{both-pass, bool-cases}
 use Rattle.laws.proofs.Digits.{below-at, below-all}
-use Rattle.residues.specs.Alphabets.{isAlphabet, codeLimit}
+use Rattle.answers.specs.Limits.{bytesFit}
+use Rattle.answers.specs.declared.Refusal.the-variants.{NoRoom}
+use Rattle.residues.specs.Alphabets.{isAlphabet, codeLimit, validCodes}
 use Rattle.packets.specs.Packing.{run}
 use Rattle.packets.specs.Runs.{wellFormed, unpacked}
 use Rattle.packets.proofs.Packing.{limit-some}
 use Rattle.packets.proofs.Rules.{formed-rules, rules-formed}
-use Rattle.runs.specs.Answers.{packAnswer, unpackAnswer}
-use Rattle.runs.specs.Rules.{Packs, RunUnpacks, Unpacks}
+use Rattle.runs.specs.Answers.{packAnswer, packNumber, unpackAnswer}
+use Rattle.runs.specs.Rules.{Packable, Packs, RunUnpacks, Unpacks}
 use Rattle.runs.specs.declared.PackAnswer.the-variants as Pack
 use Rattle.runs.specs.declared.UnpackAnswer.the-variants as Unpack
 use Rattle.runs.proofs.Answers.{MayPack, pack-done, packed-may, MayUnpack, unpack-as, run-done, unpacked-may}
@@ -27,10 +30,15 @@ known-back a h = rw (le-leb 1 a (h .0), le-leb a 3 (h .1))
 
 module _ (a : ℕ) (codes : List ℕ) (room place : ℕ) where
   may : MayPack a codes room place → Packs a codes room place
-  may m = record { inputSize = m .small; known = known a (m .known); valid = λ k h. below-at (codeLimit a) k codes (limit-some a) (m .valid); fits = m .fits }
+  may m =
+      let ok : Packable a codes =
+      record { inputSize = m .small; known = known a (m .known); valid = λ k h. below-at (codeLimit a) k codes (limit-some a) (m .valid) } in
+      record { packable = ok; fits = m .fits }
 
   must : Packs a codes room place → MayPack a codes room place
-  must r = record { small = r .inputSize; known = known-back a (r .known); valid = below-all (codeLimit a) codes (r .valid); fits = r .fits }
+  must r =
+      let ok = r .packable in
+      record { small = ok .inputSize; known = known-back a (ok .known); valid = below-all (codeLimit a) codes (ok .valid); fits = r .fits }
 
   -- Where the rules hold packing answers 0, the run's packets and L.
   pub rules-pack : Packs a codes room place → packAnswer a codes room place ≡ Pack.Packed (length (run a codes)) (length codes)
@@ -39,6 +47,31 @@ module _ (a : ℕ) (codes : List ℕ) (room place : ℕ) where
   -- Where packing answers 0 the rules hold.
   pub packed-rules : (n l : ℕ) → packAnswer a codes room place ≡ Pack.Packed n l → Packs a codes room place
   packed-rules n l e = may (packed-may a codes room place n l e)
+
+  -- Where all holds but that the run fits, packing is refused for the room.
+  pub rules-full : Packable a codes → room < place + length (run a codes) → packAnswer a codes room place ≡ Pack.Refused NoRoom
+  unfolding packAnswer
+  rules-full ok h =
+      rw (
+        le-leb (length codes) 2147483647 (ok .inputSize),
+        known-back a (ok .known),
+        below-all (codeLimit a) codes (ok .valid),
+        lt-leb (place + length (run a codes)) room h,
+      )
+
+  -- Where the run fits its number is not that of the room, whatever else is wrong.
+  pub fits-not-full : place + length (run a codes) ≤ room → packNumber (packAnswer a codes room place) ≡ 13 → ⊥
+  unfolding packAnswer
+  fits-not-full h e =
+      bool-cases (bytesFit codes)
+      (λ b.
+      bool-cases (isAlphabet a)
+      (λ c.
+      bool-cases (validCodes a codes)
+      (λ d. omega (arith, rw (b, c, d, le-leb (place + length (run a codes)) room h) at e))
+      (λ d. omega (arith, rw (b, c, d) at e)))
+      (λ c. omega (arith, rw (b, c) at e)))
+      (λ b. omega (arith, rw b at e))
 
 module _ (a : ℕ) (packets : List ℕ) (room : ℕ) where
   pub run-must : RunUnpacks a packets room → MayUnpack a packets room

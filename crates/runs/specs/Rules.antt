@@ -8,13 +8,17 @@ use Rattle.packets.specs.Packing.{run}
 use Rattle.packets.specs.Runs.{unpacked}
 use Rattle.packets.specs.Rules.{WellFormed}
 
-pub record Packs (alphabet : ℕ) (codes : List ℕ) (room place : ℕ) : Type 0 where
+-- What packing asks of an alphabet and codes, whatever the buffer.
+pub record Packable (alphabet : ℕ) (codes : List ℕ) : Type 0 where
   -- an input byte range has at most 2,147,483,647 bytes
   pub inputSize : length codes ≤ 2147483647
   -- the alphabet is 1, 2 or 3
   pub known : (1 ≤ alphabet) × (alphabet ≤ 3)
   -- every code is valid
   pub valid : (k : ℕ) → k < length codes → getD codes k 0 < codeLimit alphabet
+
+pub record Packs (alphabet : ℕ) (codes : List ℕ) (room place : ℕ) : Type 0 where
+  pub packable : Packable alphabet codes
   -- the run fits from its place on
   pub fits : place + length (run alphabet codes) ≤ room
 

@@ -30,6 +30,7 @@ pub mod record_cases;
 pub mod record_faults;
 pub mod record_rules;
 pub mod rng;
+pub mod room_cases;
 pub mod rules;
 pub mod runs;
 pub mod samples;

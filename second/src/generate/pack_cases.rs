@@ -3,9 +3,8 @@
 use super::order::Order;
 use super::rng::Rng;
 use super::rules::{by_chance, order, rule, sides_and_pairs, Damaged, Rule};
-use super::runs;
 use super::samples::Samples;
-use super::Case;
+use super::{room_cases, runs, Case};
 use crate::answers::*;
 use crate::call::*;
 use crate::packets::run_of;
@@ -13,13 +12,13 @@ use crate::residues::Alphabet;
 
 /// What a packing call gets. `spare` and `results` are lengths in bytes that only the console's call has.
 #[derive(Clone, Debug)]
-struct Plan {
-    alphabet: u64,
-    codes: Vec<u8>,
-    place: u64,
-    room: usize,
-    spare: usize,
-    results: usize,
+pub struct Plan {
+    pub alphabet: u64,
+    pub codes: Vec<u8>,
+    pub place: u64,
+    pub room: usize,
+    pub spare: usize,
+    pub results: usize,
 }
 
 impl Plan {
@@ -38,7 +37,7 @@ impl Plan {
         Plan::new(number, alphabet, runs::codes(alphabet, length, rng), rng)
     }
 
-    fn call(self, byte: u8, rng: &mut Rng) -> Call {
+    pub fn call(self, byte: u8, rng: &mut Rng) -> Call {
         let alphabet = Argument::Number(self.alphabet);
         let codes = Argument::Range(self.codes);
         let place = Argument::Number(self.place);
@@ -46,9 +45,14 @@ impl Plan {
             let buffer = Argument::PacketOutput(self.room, rng.number() as u32);
             return Call::new(byte, vec![alphabet, codes, place, buffer]);
         }
-        let buffer = Argument::Output((4 * self.room + self.spare).min(MOST_RANGE), rng.byte());
+        let buffer = Argument::Output(4 * self.room + self.spare, rng.byte());
         let results = Argument::Output(self.results, rng.byte());
         Call::new(byte, vec![alphabet, codes, buffer, place, results])
+    }
+
+    /// The place. A huge one is cut: no buffer has it either way.
+    pub fn near_place(&self) -> usize {
+        self.place.min(64) as usize
     }
 }
 
@@ -58,6 +62,7 @@ fn rules(byte: u8, alphabet: Alphabet) -> Vec<Rule<Plan>> {
         runs::alphabet_rule(alphabet, |plan: &mut Plan| &mut plan.alphabet),
         code_rule(alphabet),
         fits_rule(),
+        room_cases::room_rule(alphabet),
         place_rule(),
     ];
     if byte == CONSOLE_PACK {
@@ -112,10 +117,10 @@ fn place_rule() -> Rule<Plan> {
         .farther(|plan, rng| plan.place = huge_place(rng))
 }
 
-/// Where the run ends in the buffer, in packets. A huge place is cut: no buffer has it either way.
+/// Where the run ends in the buffer, in packets.
 fn run_end(plan: &Plan) -> usize {
     let alphabet = if plan.alphabet == 3 { Alphabet::Amino } else { Alphabet::Nucleic };
-    plan.place.min(64) as usize + run_of(alphabet, &plan.codes).len()
+    plan.near_place() + run_of(alphabet, &plan.codes).len()
 }
 
 /// A place that no buffer has, also such as wrap when they are multiplied by four or added to.
@@ -151,6 +156,8 @@ pub fn planned(byte: u8, rng: &mut Rng, samples: &Samples) -> Vec<Case> {
     if byte == CONSOLE_PACK {
         cases.extend(result_sizes(byte, rng));
     }
+    cases.extend(room_cases::planned(byte, rng));
+    cases.extend((0..500).map(|_| random(byte, rng)));
     cases
 }
 

@@ -1,9 +1,10 @@
 //! Valid codes and well-formed runs by chance, and the rules that packing and unpacking share.
 
+use super::nucleotide_codes::bases;
 use super::rng::Rng;
 use super::rules::{rule, Rule};
 use crate::answers::{NO_ROOM, WRONG_TYPE};
-use crate::packets::{five_bit_packet, Packet};
+use crate::packets::{five_bit_packet, two_bit_packet, Packet};
 use crate::residues::Alphabet;
 
 /// The alphabets, and what their rules are called.
@@ -91,8 +92,7 @@ pub fn run(alphabet: Alphabet, packets: usize, rng: &mut Rng) -> Vec<Packet> {
 /// A packet full of residues; of either form for nucleic.
 pub fn full_packet(alphabet: Alphabet, rng: &mut Rng) -> Packet {
     if alphabet == Alphabet::Nucleic && rng.chance(50) {
-        let fields = (0..15).map(|_| rng.below(4) as u8).collect();
-        return Packet { ends_run: false, five_bit: false, fields };
+        return two_bit_packet(&bases(15, rng));
     }
     let all = alphabet.letters().len();
     let fields: Vec<u8> = (0..6).map(|_| rng.below(all) as u8).collect();

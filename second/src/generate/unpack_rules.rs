@@ -6,7 +6,7 @@ use super::runs;
 use super::unpack_cases::Plan;
 use crate::answers::*;
 use crate::call::CONSOLE_UNPACK;
-use crate::packets::{five_bit_packet, Packet, NO_RESIDUE};
+use crate::packets::{five_bit_packet, two_bit_packet, Packet, NO_RESIDUE};
 use crate::residues::Alphabet;
 
 const ROOM: &str = "the output has room for L";
@@ -67,7 +67,7 @@ fn packet_rules(alphabet: Alphabet) -> Vec<Rule<Plan>> {
             }),
     ];
     if alphabet == Alphabet::Amino {
-        let two_bit = || Packet { ends_run: false, five_bit: false, fields: vec![1; 15] };
+        let two_bit = || two_bit_packet(&[1; 15]);
         rules.push(
             rule(BAD_RUN, "bit 30 is set in every packet of an amino run")
                 .passes("set", |_: &mut Plan| {})

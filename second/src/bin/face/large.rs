@@ -1,11 +1,16 @@
-//! Ranges around number 22's limit: untouched anonymous memory, which takes no room.
+//! Ranges around number 22's limit: untouched anonymous memory, which takes no room. And packing of sequences that the
+//! protocol has no room for.
 
 use crate::library;
+use crate::lines::library_line;
 use second::call::*;
 use second::console::*;
 use second::generate::large::{first, last, pair, ranges, MOST};
 use second::generate::order::Shows;
+use second::generate::rng::Rng;
+use second::generate::room_cases::at_length;
 use second::generate::Case;
+use second::line::line_of;
 use second::outcome::Outcome;
 use second::stream::hex;
 
@@ -73,7 +78,18 @@ pub fn pack(outcome: &mut Outcome, large: &[u8]) -> Result<(), String> {
         let found = library::pack(alphabet, codes, &mut theirs.0, place, &mut theirs.1);
         outcome.count(&case, &line(expected, &[&ours.0, &ours.1]), line(found, &[&theirs.0, &theirs.1]));
     }
+    pack_long(outcome);
     pack_far(outcome)
+}
+
+/// Sequences longer than a range of the protocol, in exactly the room that they take and in one packet fewer, or one byte.
+fn pack_long(outcome: &mut Outcome) {
+    let mut rng = Rng::new(8);
+    for length in [16_385, 65_542, 1_000_000, 1_000_005] {
+        for (shift, case) in at_length(CONSOLE_PACK, length, &mut rng).iter().enumerate() {
+            outcome.count(case, &line_of(&case.call), library_line(&case.call, shift));
+        }
+    }
 }
 
 /// A buffer is lent for output, so 22 does not speak of it: a packet far behind two gigabytes.
