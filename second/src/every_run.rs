@@ -21,7 +21,7 @@ fn runs_from(alphabet: Alphabet, codes: &[u8], place: usize) -> Vec<Vec<u32>> {
     runs
 }
 
-/// How many well-formed runs residues have, and the fewest packets of one.
+/// How many well-formed runs residues have, at most what a `usize` holds, and the fewest packets of one.
 #[derive(Clone, Copy, Debug, PartialEq, Eq)]
 pub struct Found {
     pub runs: usize,
@@ -36,7 +36,8 @@ pub fn search(alphabet: Alphabet, codes: &[u8]) -> Found {
         let packets = packets_at(alphabet, codes, place);
         let behind: Vec<Found> = packets.iter().map(|packet| from[place + packet.residues().len()]).collect();
         let fewest = behind.iter().map(|found| found.fewest).min().expect("a packet may stand anywhere");
-        from[place] = Found { runs: behind.iter().map(|found| found.runs).sum(), fewest: fewest + 1 };
+        let runs = behind.iter().fold(0, |runs: usize, found| runs.saturating_add(found.runs));
+        from[place] = Found { runs, fewest: fewest + 1 };
     }
     from[0]
 }

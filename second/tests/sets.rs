@@ -6,6 +6,7 @@ use second::answers::*;
 use second::call::{Argument, Call, LOOKUP};
 use second::console::packets_of_bytes;
 use second::dsqdata::{check_set, MAGIC};
+use second::every_run::search;
 use second::fields::ByteOrder;
 use second::generate::samples::SampleSet;
 use second::line::line_of;
@@ -68,6 +69,8 @@ fn every_real_run_unpacks_to_its_line() {
             let mut output = vec![0; line.len()];
             assert_eq!(unpack(record.alphabet, run, &mut output).unwrap().residues, line.len() as i128);
             assert_eq!(alphabet.text_of(&output), *line, "{} {number}", set.name);
+            // No run of these residues is shorter (request 2026-08): Easel packs by the same rule.
+            assert_eq!(search(alphabet, &output).fewest, run.len(), "{} {number}", set.name);
             let start = 8 + found.metadata.start as usize;
             let bytes = &metadata[start..start + found.metadata.length as usize];
             assert!(read_metadata(bytes, byte_order).is_some());

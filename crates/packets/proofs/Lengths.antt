@@ -33,8 +33,8 @@ run-most a cs =
     (λ xs u h rec. omega (arith, rec, size-six a xs h, length-drop (size a xs) xs))
     cs tt
 
--- A run without 2-bit packets has exactly so many.
-pub run-fives : (a : ℕ) (cs : List ℕ) → ((k : ℕ) → isTwoBit a (drop k cs) ≡ false) → length (run a cs) ≡ sixes (length cs)
+-- without 2-bit packets it has exactly so many
+run-fives : (a : ℕ) (cs : List ℕ) → ((k : ℕ) → isTwoBit a (drop k cs) ≡ false) → length (run a cs) ≡ sixes (length cs)
 run-fives a cs five =
     packets-run a (λ xs. (k : ℕ) → isTwoBit a (drop k xs) ≡ false) (λ k xs q j. rw (drop-drop j k xs) (q (k + j)))
     (λ xs ps. length ps ≡ sixes (length xs))
@@ -42,11 +42,11 @@ run-fives a cs five =
     (λ xs q h rec. omega (arith, rec, size-five a xs (length xs) (q 0), length-drop (size a xs) xs))
     cs five
 
--- So has an amino run.
+-- An amino run has exactly so many.
 pub run-amino : (a : ℕ) (cs : List ℕ) → isAmino a ≡ true → length (run a cs) ≡ sixes (length cs)
 run-amino a cs m = run-fives a cs (λ k. amino-five a (drop k cs) m)
 
--- So have codes of which none is below 4.
+-- So has a run of codes of which none is below 4.
 pub run-above : (a : ℕ) (cs : List ℕ) → ((k : ℕ) → k < length cs → 4 ≤ getD cs k 0) → length (run a cs) ≡ sixes (length cs)
 run-above a cs above = run-fives a cs (λ k. five (drop k cs) (λ h. rw (getD-drop k cs 0 0) (above (k + 0) (omega (arith, length-drop k cs)))))
   where
@@ -68,7 +68,7 @@ module _ (a : ℕ) (nucleic : isAmino a ≡ false) where
   plain-fifteen : (cs : List ℕ) → allBelow 4 cs ≡ true → 15 ≤ length cs → size a cs ≡ 15
   plain-fifteen cs v h = size-two a cs (length cs) (plain-two a cs nucleic ∙ below-plain 15 cs h (below-take 4 15 cs v))
 
-  -- At least one takes exactly L/15 rounded down plus (L mod 15)/6 rounded up.
+  -- One or more take exactly L/15 rounded down plus (L mod 15)/6 rounded up.
   pub run-plain : (cs : List ℕ) → allBelow 4 cs ≡ true → 0 < length cs → length (run a cs) ≡ plainPackets (length cs)
   run-plain =
       packets-run a (λ xs. allBelow 4 xs ≡ true) (below-drop 4) (λ xs ps. 0 < length xs → length ps ≡ plainPackets (length xs))
