@@ -157,7 +157,8 @@ pub fn planned(byte: u8, rng: &mut Rng, samples: &Samples) -> Vec<Case> {
         cases.extend(result_sizes(byte, rng));
     }
     cases.extend(room_cases::planned(byte, rng));
-    cases.extend((0..500).map(|_| random(byte, rng)));
+    // As many as the default count left room for before the room cases came.
+    cases.extend((0..1400).map(|_| random(byte, rng)));
     cases
 }
 
