@@ -8,4 +8,4 @@ use Rattle.answers.specs.Numbers.{number_of}
 pub told : (n : ℕ) (r s : Refusal) → r ≡ s → n ≡ number_of s → n ≡ number_of r
 told n r s e f = f ∙ sym (ap number_of e)
 
-pub ruleset needs = (told, author.needs)
+pub ruleset needs = (told, author.rules)

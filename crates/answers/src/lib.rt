@@ -1,9 +1,11 @@
 // Document 01's answer numbers, and the answer of a check that returns no values.
+#![tactic(auto)]
+
 ghost use Rattle.std.specs.Prelude.{◌≡◌};
 ghost use Rattle.answers.specs.Numbers.{number_of, checked_number};
 
 // Why a call refuses: one case for each row of document 01's table of answer numbers.
-#[derive(Drop)]
+#[derive(Clone, Copy)]
 pub enum Refusal {
     TooShort,
     WrongVersion,
@@ -29,7 +31,7 @@ pub enum Refusal {
 }
 
 // The answer of a check, or of a part of one, that returns no values.
-#[derive(Drop)]
+#[derive(Clone, Copy)]
 pub enum Checked {
     Passed,
     Refused(Refusal),

@@ -1,4 +1,6 @@
 // Packing into and unpacking from packets that are little-endian bytes. Every public function takes any bytes.
+#![tactic(auto)]
+
 mod bytes;
 mod packing;
 mod reading;

@@ -12,7 +12,7 @@ use crate::bytes::{four_at, put_packet};
 use packets::{PacketPos, TwoBit};
 
 // How many packets are written, and how many codes they take.
-#[derive(Drop)]
+#[derive(Clone, Copy)]
 struct Written {
     packets: usize,
     codes: usize,

@@ -9,7 +9,7 @@ const MOST_PACKETS: u64 = 4096;
 const MOST_NUMBERS: u64 = 2048;
 
 // Whether the run goes on, or why it ends: the stream ends inside a case, a range is too long, or a byte names no call.
-#[derive(Drop)]
+#[derive(Clone, Copy)]
 pub enum Stream {
     On,
     Cut,
@@ -18,7 +18,7 @@ pub enum Stream {
 }
 
 // A number of the stream, or the length of a range, and whether the run goes on behind it. Where it does not, nothing more is read.
-#[derive(Drop)]
+#[derive(Clone, Copy)]
 pub struct Taken {
     pub stream: Stream,
     pub value: u64,

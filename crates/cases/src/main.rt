@@ -1,4 +1,6 @@
 // Reads calls from standard input, runs them, and writes a line for each.
+#![tactic(auto)]
+
 use input::Stream;
 
 mod identifiers;

@@ -26,7 +26,7 @@ fn put_title_answer(answer: TitleAnswer) {
 }
 
 // The arguments after a header file: a record's start and end, and a number.
-#[derive(Drop)]
+#[derive(Clone, Copy)]
 struct Record {
     stream: Stream,
     start: u64,

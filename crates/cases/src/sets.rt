@@ -73,7 +73,7 @@ fn order_told(number: u64) -> Order {
 }
 
 // The ten fields and the byte order of a record, and the last number taken.
-#[derive(Drop)]
+#[derive(Clone, Copy)]
 struct TakenRecord {
     last: Taken,
     set: SetRecord,

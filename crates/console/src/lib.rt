@@ -1,4 +1,6 @@
 // The console's calls: numbers and byte ranges in, an answer number out, results as eight-byte little-endian numbers.
+#![tactic(auto)]
+
 mod results;
 
 ghost use Rattle.std.specs.Prelude.{◌≡◌, length};

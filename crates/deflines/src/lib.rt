@@ -1,4 +1,6 @@
 // The def-lines of a record that passes its check: titles and identifiers.
+#![tactic(auto)]
+
 mod values;
 
 ghost use Rattle.std.specs.Prelude.{◌≡◌, ◌+◌, ◌≤◌, length};
@@ -13,35 +15,35 @@ use values::identifier_at;
 // The titles given before a title, and the numbers of identifiers, count through all def-lines of a record.
 
 // The answer of the title call: a title's place in the header file.
-#[derive(Drop)]
+#[derive(Clone, Copy)]
 pub enum TitleAnswer {
     Title(Span),
     Refused(Refusal),
 }
 
 // A text of a body that may be left out.
-#[derive(Drop)]
+#[derive(Clone, Copy)]
 pub enum OptionalText {
     Absent,
     Text(Span),
 }
 
 // An integer of a body that may be left out.
-#[derive(Drop)]
+#[derive(Clone, Copy)]
 pub enum OptionalInteger {
     Absent,
     Integer(i64),
 }
 
 // An object-id, which tags or names anything: a number, or text in the header file.
-#[derive(Drop)]
+#[derive(Clone, Copy)]
 pub enum ObjectId {
     Number(i64),
     Text(Span),
 }
 
 // What a text id gives of its sequence.
-#[derive(Drop)]
+#[derive(Clone, Copy)]
 pub struct TextId {
     pub name: OptionalText,
     pub accession: OptionalText,
@@ -50,7 +52,7 @@ pub struct TextId {
 }
 
 // A sequence that was imported.
-#[derive(Drop)]
+#[derive(Clone, Copy)]
 pub struct Import {
     pub id: i64,
     pub db: OptionalText,
@@ -58,14 +60,14 @@ pub struct Import {
 }
 
 // The number of a patent, or of its application.
-#[derive(Drop)]
+#[derive(Clone, Copy)]
 pub enum PatentNumber {
     Number(Span),
     Application(Span),
 }
 
 // A sequence of a patent, and the patent that is cited.
-#[derive(Drop)]
+#[derive(Clone, Copy)]
 pub struct Patent {
     pub seqid: i64,
     pub country: Span,
@@ -74,14 +76,14 @@ pub struct Patent {
 }
 
 // A tag in another database.
-#[derive(Drop)]
+#[derive(Clone, Copy)]
 pub struct DatabaseTag {
     pub db: Span,
     pub tag: ObjectId,
 }
 
 // The fields of a date.
-#[derive(Drop)]
+#[derive(Clone, Copy)]
 pub struct DateFields {
     pub year: i64,
     pub month: OptionalInteger,
@@ -93,7 +95,7 @@ pub struct DateFields {
 }
 
 // A date that may be left out: its text, or its fields.
-#[derive(Drop)]
+#[derive(Clone, Copy)]
 pub enum OptionalDate {
     Absent,
     Text(Span),
@@ -101,7 +103,7 @@ pub enum OptionalDate {
 }
 
 // A molecule of a structure, and its chain.
-#[derive(Drop)]
+#[derive(Clone, Copy)]
 pub struct Structure {
     pub mol: Span,
     pub chain: i64,
@@ -109,7 +111,7 @@ pub struct Structure {
 }
 
 // An identifier, by its kind in source 001.
-#[derive(Drop)]
+#[derive(Clone, Copy)]
 pub enum Identifier {
     Local(ObjectId),
     Gibbsq(i64),
@@ -134,14 +136,14 @@ pub enum Identifier {
 }
 
 // The answer of the identifier call.
-#[derive(Drop)]
+#[derive(Clone, Copy)]
 pub enum IdentifierAnswer {
     Found(Identifier),
     Refused(Refusal),
 }
 
 // The answer of the first title call.
-#[derive(Drop)]
+#[derive(Clone, Copy)]
 pub enum FirstAnswer {
     Title(Span),
     Untitled,
@@ -149,7 +151,7 @@ pub enum FirstAnswer {
 }
 
 // A field of a def-line: its title, the list of its identifiers, or another field.
-#[derive(Drop)]
+#[derive(Clone, Copy)]
 pub enum Field {
     Title(Span),
     Identifiers(usize),
@@ -157,21 +159,21 @@ pub enum Field {
 }
 
 // A title that was looked for: found, or so many are left to pass.
-#[derive(Drop)]
+#[derive(Clone, Copy)]
 pub enum TitleSearch {
     Found(Span),
     Left(u64),
 }
 
 // A place that was looked for: found, or so many are left to pass.
-#[derive(Drop)]
+#[derive(Clone, Copy)]
 pub enum PlaceSearch {
     Found(usize),
     Left(u64),
 }
 
 // What comes next in a list: an element, which ends at a place, or no more.
-#[derive(Drop)]
+#[derive(Clone, Copy)]
 pub enum Next {
     Element(usize),
     NoMore,

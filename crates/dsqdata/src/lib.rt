@@ -1,5 +1,7 @@
 // A dsqdata set: index, metadata and sequence file. The check of a whole set, and the lookup of one sequence.
 // Every public function takes any bytes.
+#![tactic(auto)]
+
 ghost use Rattle.std.specs.Prelude.{◌≡◌, ◌≤◌, ◌<◌, length};
 ghost use Rattle.laws.specs.Rules.{AllHold};
 ghost use Rattle.answers.specs.Limits.{checked_by};
@@ -20,7 +22,7 @@ mod records;
 mod set_runs;
 
 // The ten header fields of a set, in file order, and the byte order of its files.
-#[derive(Drop)]
+#[derive(Clone, Copy)]
 pub struct SetRecord {
     pub magic: u32,
     pub tag: u32,
@@ -35,7 +37,7 @@ pub struct SetRecord {
     pub order: Order,
 }
 
-#[derive(Drop)]
+#[derive(Clone, Copy)]
 pub enum SetAnswer {
     Passed(SetRecord),
     Refused(Refusal),
@@ -43,7 +45,7 @@ pub enum SetAnswer {
 
 // Where one sequence stands, counted after the headers as the ends are: the start of its metadata and its length in bytes, the start of
 // its run and its length in packets.
-#[derive(Drop)]
+#[derive(Clone, Copy)]
 pub enum LookupAnswer {
     Found {
         start: BytePos,

@@ -1,4 +1,6 @@
 // Header elements: integers, texts, lists and choices, read by a form that says what may stand where.
+#![tactic(auto)]
+
 mod grammar;
 
 ghost use Rattle.std.specs.Prelude.{◌≡◌, ◌+◌, ◌^◌, ◌≤◌, length};
@@ -10,7 +12,7 @@ use answers::Refusal;
 use grammar::{form_inside, in_range, may_begin, may_close, may_follow};
 
 // The records of source 001, which have fields.
-#[derive(Drop)]
+#[derive(Clone, Copy)]
 pub enum RecordKind {
     DefLine,
     GiimportId,
@@ -24,7 +26,7 @@ pub enum RecordKind {
 
 // What an element at a place has to be; Any asks for nothing but the nesting. A field stands in a record; an identifier, an object-id, a
 // patent's number and a date are choices.
-#[derive(Drop)]
+#[derive(Clone, Copy)]
 pub enum Form {
     Any,
     Integer,
@@ -41,35 +43,35 @@ pub enum Form {
 }
 
 // A part of a header file.
-#[derive(Drop)]
+#[derive(Clone, Copy)]
 pub struct Span {
     pub start: usize,
     pub len: usize,
 }
 
 // Where the bytes of an integer or a text stand.
-#[derive(Drop)]
+#[derive(Clone, Copy)]
 pub enum SpanAnswer {
     Part(Span),
     Refused(Refusal),
 }
 
 // An integer that was read.
-#[derive(Drop)]
+#[derive(Clone, Copy)]
 pub enum IntegerAnswer {
     Integer(i64),
     Refused(Refusal),
 }
 
 // Where an element ends.
-#[derive(Drop)]
+#[derive(Clone, Copy)]
 pub enum ElementAnswer {
     End(usize),
     Refused(Refusal),
 }
 
 // How an element begins: it is read to its end, or it is a list or a choice, with the form of what stands inside.
-#[derive(Drop)]
+#[derive(Clone, Copy)]
 pub enum Start {
     Ended(ElementAnswer),
     List(Form),

@@ -1,5 +1,7 @@
 // Integers at a place of a byte slice, of 4 or 8 bytes, big- or little-endian, unsigned or in two's complement, and numbers written
 // in either order. Every public function is total: a byte past the end reads as 0, and a number that does not fit is not written.
+#![tactic(auto)]
+
 mod sizes;
 
 ghost use Rattle.std.specs.Prelude.{◌≡◌, [], ◌∷◌, ◌+◌, ◌*◌, ◌≤◌, ◌<◌, leb, length, get_or};
@@ -10,7 +12,7 @@ ghost use Rattle.fields.specs.Written.{little_bytes, number_bytes, number_put};
 pub use sizes::{natural_at, not_negative_at};
 
 // The byte orders.
-#[derive(Drop)]
+#[derive(Clone, Copy)]
 pub enum Order {
     Big,
     Little,

@@ -1,4 +1,6 @@
 // Header records: the check of one record.
+#![tactic(auto)]
+
 ghost use Rattle.std.specs.Prelude.{◌≡◌};
 ghost use Rattle.answers.specs.Limits.{checked_by};
 ghost use Rattle.headers.specs.Record.{element_rules, check_record};

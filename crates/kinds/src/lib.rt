@@ -1,11 +1,13 @@
 // The names of the kinds of identifier, as source 001 writes them.
+#![tactic(auto)]
+
 ghost use Rattle.std.specs.Prelude.{◌≡◌};
 ghost use Rattle.kinds.specs.Names.{put_answer, written_by, name_answer, name_output};
 
 use answers::Refusal;
 
 // The answer of the name call: how many bytes the name has.
-#[derive(Drop)]
+#[derive(Clone, Copy)]
 pub enum NameAnswer {
     Name(usize),
     Refused(Refusal),

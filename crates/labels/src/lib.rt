@@ -1,4 +1,6 @@
 // The console's record walker, and the label of a sequence.
+#![tactic(auto)]
+
 ghost use Rattle.std.specs.Prelude.{◌≡◌, ◌≤◌};
 ghost use Rattle.laws.specs.Signed.{to_nat};
 ghost use Rattle.answers.specs.Limits.{checked_by};
@@ -12,7 +14,7 @@ use elements::Span;
 use volume::IndexAnswer;
 
 // A walker's place: a record's start and end in the header file, and the number of its titles already given.
-#[derive(Drop)]
+#[derive(Clone, Copy)]
 pub struct Place {
     pub start: u64,
     pub end: u64,
@@ -27,7 +29,7 @@ pub struct Walker<'a> {
 }
 
 // What a step gives: the next title, or the refusal, and the place after it.
-#[derive(Drop)]
+#[derive(Clone, Copy)]
 pub struct Step {
     pub answer: TitleAnswer,
     pub after: Place,
@@ -78,7 +80,7 @@ pub fn next_title(header: &[u8], start: u64, end: u64, given: u64) -> Step
 }
 
 // Where a label stands: a part of the header file, or of the index.
-#[derive(Drop)]
+#[derive(Clone, Copy)]
 pub enum LabelAnswer {
     InHeader(Span),
     InIndex(Span),

@@ -1,5 +1,7 @@
 // Writes the listing of a volume to standard output. The arguments name its index, its sequence file and its header file.
 // Where a file cannot be read a message goes to standard error and nothing to standard output.
+#![tactic(auto)]
+
 ghost use Rattle.std.specs.Prelude.{◌+◌, ◌≤◌, ◌<◌, length};
 ghost use Rattle.io.specs.Counts.{IsPrefixLen};
 
@@ -10,7 +12,7 @@ use listing::LISTING_ROOM;
 const MOST_READ: usize = listing::MOST_LISTED + 1;
 
 // How many bytes of a file came, and whether all that were asked for could be read.
-#[derive(Drop)]
+#[derive(Clone, Copy)]
 struct Loaded {
     is_read: bool,
     len: usize,

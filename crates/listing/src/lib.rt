@@ -1,4 +1,6 @@
 // The listing of a volume: document 01's text, written into a lent array that has room for every listing.
+#![tactic(auto)]
+
 ghost use Rattle.std.specs.Prelude.{◌≡◌, [], ◌∷◌, ◌+◌, ◌≤◌, ◌<◌, length};
 ghost use Rattle.laws.specs.Writing.{written_at};
 ghost use Rattle.volume.specs.Tables.{length_of_number};

@@ -1,5 +1,7 @@
 // One metadata record of a dsqdata set: name, accession and description, each closed by NUL, and a taxonomy id.
 // The public function takes any bytes and any places.
+#![tactic(auto)]
+
 ghost use Rattle.std.specs.Prelude.{◌≡◌, true, false, not, ◌+◌, ◌-◌, ◌≤◌, ◌<◌, min, eqb, length};
 ghost use Rattle.metadata.specs.Record.{stays_in, all_stay, is_text, closing, is_taxonomy, behind_description, behind_accession, behind_name, texts_in};
 
@@ -14,7 +16,7 @@ pub(crate) enum Closing {
 }
 
 // The lengths of a metadata record's name, accession and description.
-#[derive(Drop)]
+#[derive(Clone, Copy)]
 pub enum Texts {
     Lengths {
         name: usize,
@@ -25,7 +27,7 @@ pub enum Texts {
 }
 
 // What reading a body of records finds: the longest name, accession and description.
-#[derive(Drop)]
+#[derive(Clone, Copy)]
 pub enum BodyAnswer {
     Longest {
         name: usize,

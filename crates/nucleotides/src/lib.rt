@@ -1,5 +1,7 @@
 // Nucleic codes written as a nucleotide volume has them: two-bit bytes, and right behind them the ambiguity range. Everything is checked
 // before anything is written.
+#![tactic(auto)]
+
 mod pieces;
 mod table;
 mod two_bit;
@@ -18,28 +20,28 @@ use table::{put_block, put_pieces, put_word};
 use two_bit::{last_byte, write_bytes};
 
 // The sizes of both parts in bytes, or why nothing was written.
-#[derive(Drop)]
+#[derive(Clone, Copy)]
 pub enum WriteAnswer {
     Written { two_bit: usize, table: usize },
     Refused(Refusal),
 }
 
 // How many bases a code stands for, or why it has none.
-#[derive(Drop)]
+#[derive(Clone, Copy)]
 pub enum BasesAnswer {
     Bases(u32),
     Refused(Refusal),
 }
 
 // How many pieces a scan met, and the first place behind them.
-#[derive(Drop)]
+#[derive(Clone, Copy)]
 pub struct Reached {
     pub next: usize,
     pub pieces: usize,
 }
 
 // The largest code, and how many pieces there are.
-#[derive(Drop)]
+#[derive(Clone, Copy)]
 pub struct Survey {
     pub largest: u8,
     pub pieces: usize,

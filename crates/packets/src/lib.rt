@@ -1,4 +1,6 @@
 // Packets: places, one packet from codes and back, and the tests of a packet by its place in a run. Every public function is total.
+#![tactic(auto)]
+
 mod encoding;
 mod words;
 
@@ -14,29 +16,29 @@ pub use encoding::{encode, next_two_bit, sixes_of, valid_codes};
 pub use words::word_fault;
 
 // A place counted in packets.
-#[derive(Drop)]
+#[derive(Clone, Copy)]
 pub struct PacketPos(pub u64);
 
 // A place counted in bytes.
-#[derive(Drop)]
+#[derive(Clone, Copy)]
 pub struct BytePos(pub u64);
 
 // The next packet, and how many residues it takes.
-#[derive(Drop)]
+#[derive(Clone, Copy)]
 pub struct Next {
     pub packet: u32,
     pub size: usize,
 }
 
 // The 2-bit packet of the next fifteen codes, with bit 31 clear, or that fifteen codes below 4 do not come next.
-#[derive(Drop)]
+#[derive(Clone, Copy)]
 pub enum TwoBit {
     Packet(u32),
     NotPlain,
 }
 
 // What reading packets as a run finds: the number of its residues, or that it is not well formed.
-#[derive(Drop)]
+#[derive(Clone, Copy)]
 pub enum RunLength {
     Residues(usize),
     NoRun,

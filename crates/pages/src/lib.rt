@@ -1,4 +1,6 @@
 // A page of sequences: a list of numbers fetched one after another into one output.
+#![tactic(auto)]
+
 ghost use Rattle.std.specs.Prelude.{◌≡◌, ◌≤◌, length};
 ghost use Rattle.pages.specs.Page.{begun, fetch_all, page_answer, page_output, page_ends};
 
@@ -6,7 +8,7 @@ use answers::{MOST_BYTES, Refusal};
 use sequence::DecodeAnswer;
 
 // How many items were fetched: all; or why the page stopped at an item, and how many were done before it.
-#[derive(Drop)]
+#[derive(Clone, Copy)]
 pub enum PageAnswer {
     Fetched(u64),
     Stopped { refusal: Refusal, done: u64 },

@@ -1,4 +1,6 @@
 // Easel's alphabets and residue codes, the codes of a volume's ambiguity values, and the values of nucleic codes.
+#![tactic(auto)]
+
 ghost use Rattle.std.specs.Prelude.{◌≡◌, ◌<◌, max, length, get_or};
 ghost use Rattle.laws.specs.Places.{largest_to};
 ghost use Rattle.residues.specs.Alphabets.{is_alphabet, is_amino, code_limit};

@@ -1,4 +1,6 @@
 // Packing and unpacking over packets. Every public function takes any codes and packets.
+#![tactic(auto)]
+
 ghost use Rattle.std.specs.Prelude.{◌≡◌, true, ◌+◌, ◌≤◌, eqb, length};
 ghost use Rattle.laws.specs.Writing.{written_at};
 ghost use Rattle.answers.specs.Limits.{checked_by};
@@ -12,14 +14,14 @@ use answers::{Checked, Refusal};
 use packets::{PacketPos, RunLength};
 
 // What packing answers: the run's packets and L, or why it refuses.
-#[derive(Drop)]
+#[derive(Clone, Copy)]
 pub enum PackAnswer {
     Packed { packets: u64, residues: u64 },
     Refused(Refusal),
 }
 
 // What unpacking answers: the run's packets and L, or why it refuses.
-#[derive(Drop)]
+#[derive(Clone, Copy)]
 pub enum UnpackAnswer {
     Unpacked { packets: u64, residues: u64 },
     Refused(Refusal),

@@ -1,4 +1,6 @@
 // One sequence of a volume decoded into Easel codes. Everything is checked before anything is written.
+#![tactic(auto)]
+
 mod bases;
 mod corrections;
 mod entries;
@@ -14,14 +16,14 @@ use fields::not_negative_at;
 use volume::{Index, IndexAnswer};
 
 // How many residues were written, or why none were.
-#[derive(Drop)]
+#[derive(Clone, Copy)]
 pub enum DecodeAnswer {
     Decoded(usize),
     Refused(Refusal),
 }
 
 // What a sequence's own entries in the tables state, as places: where its bytes start and end, and where those of the next start.
-#[derive(Drop)]
+#[derive(Clone, Copy)]
 pub struct Entry {
     pub start: usize,
     pub end: usize,
@@ -29,7 +31,7 @@ pub struct Entry {
 }
 
 // A correction: so many residues from a start on have an ambiguity value.
-#[derive(Drop)]
+#[derive(Clone, Copy)]
 pub struct Correction {
     pub value: usize,
     pub start: usize,

@@ -1,4 +1,6 @@
 // Calls that the C face lacks, exported for the benchmark and the tests alone. They are never linked into the library.
+#![tactic(auto)]
+
 ghost use Rattle.std.specs.Prelude.{◌≡◌, length};
 ghost use Rattle.fields.specs.Number.{little};
 ghost use Rattle.fields.specs.Written.{number_put};

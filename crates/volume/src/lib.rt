@@ -1,5 +1,7 @@
 // A version 4 volume: its index, the lengths of its sequences, and the check of the whole volume.
 // Offsets, lengths and counts are signed in the file. Every public function takes any bytes.
+#![tactic(auto)]
+
 mod fixed;
 mod tables;
 
@@ -19,7 +21,7 @@ pub use tables::two_bit_length;
 use tables::{check_contents, minus, place};
 
 // The numbers of an index, lengths as the file states them, and the places of its tables.
-#[derive(Drop)]
+#[derive(Clone, Copy)]
 pub struct Index {
     pub kind: usize,
     pub title_length: usize,
@@ -32,14 +34,14 @@ pub struct Index {
     pub ambiguity_table: usize,
 }
 
-#[derive(Drop)]
+#[derive(Clone, Copy)]
 pub enum IndexAnswer {
     Read(Index),
     Refused(Refusal),
 }
 
 // What the check of a volume returns: its numbers, and where title and timestamp stand in the index.
-#[derive(Drop)]
+#[derive(Clone, Copy)]
 pub struct VolumeRecord {
     pub kind: usize,
     pub sequences: usize,
@@ -51,7 +53,7 @@ pub struct VolumeRecord {
     pub timestamp_length: usize,
 }
 
-#[derive(Drop)]
+#[derive(Clone, Copy)]
 pub enum VolumeAnswer {
     Passed(VolumeRecord),
     Refused(Refusal),

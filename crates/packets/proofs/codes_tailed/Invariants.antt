@@ -1,0 +1,15 @@
+-- `packets::codes_tailed`: the codes still to read decide. Assumes nothing.
+use mathlib.Core.Path.{◌≡◌, refl, sym, ◌∙◌}
+use Prim.Native.Nat.{◌≤◌, ◌-◌}
+use native.Mathlib.Omega.{arith}
+use Rattle.laws.specs.Digits.{digits}
+use Rattle.packets.specs.Runs.{valid_tailed}
+use Rattle.packets.proofs.Codes.{tailed_next, tailed_fill, tailed_stops, tailed_done}
+use borrow.Author.Rules.{rules}
+use Rattle.packets.proofs.codes_tailed.Given as goal
+
+abbrev pub invariant-loop-n : goal.invariant-loop-n
+invariant-loop-n l = (l.n ≤ 6) × (valid_tailed l.limit (digits 5 6 l.packet) ≡ valid_tailed l.limit (digits 5 l.n l.packet))
+
+abbrev pub decreases-loop-n : goal.decreases-loop-n
+decreases-loop-n l = l.n
