@@ -33,8 +33,7 @@ returns-then-not-run_fits c =
     rw (
   small,
   known,
-  valid
-      c,
+  valid,
   sym c.run_fits.ensures ∙ c.if-not-run_fits.true,
 )
 
@@ -47,7 +46,6 @@ returns c =
     rw (
   small,
   known,
-  valid
-      c,
+  valid,
   sym c.run_fits.ensures ∙ c.if-not-run_fits.false,
 )

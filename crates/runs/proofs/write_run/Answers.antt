@@ -27,14 +27,12 @@ pub overflow_add-buffer : goal.overflow_add-buffer
 overflow_add-buffer c = 
     let codes : List ℕ = c.args.codes.now in
     let whole : List ℕ = run c.args.alphabet (codes) in
-    let start : tie.Start invariant-loop decreases-loop = c in
-    let l : tie.At-loop invariant-loop decreases-loop = c in
-    let room : start.args.place.0 + l.loop.count < length start.args.buffer.now = omega (
+    let room : c.args.place.0 + c.loop-alphabet.count < length c.args.buffer.now = omega (
         arith,
-        start.pre.1,
-        length-drop l.loop.count (whole start),
-        ap length l.loop.inv.4,
-        run-some start.args.alphabet (drop l.loop.at (codes start)),
+        c.requires.1,
+        length-drop c.loop-alphabet.count (whole),
+        ap length c.loop-alphabet.invariant.4,
+        run-some c.args.alphabet (drop c.loop-alphabet.at (codes)),
       ) in
     omega (arith, room)
 
@@ -42,14 +40,12 @@ pub offset_bounds-buffer-first : goal.offset_bounds-buffer-first
 offset_bounds-buffer-first c = 
     let codes : List ℕ = c.args.codes.now in
     let whole : List ℕ = run c.args.alphabet (codes) in
-    let start : tie.Start invariant-loop decreases-loop = c in
-    let l : tie.At-loop invariant-loop decreases-loop = c in
-    let room : start.args.place.0 + l.loop.count < length start.args.buffer.now = omega (
+    let room : c.args.place.0 + c.loop-alphabet.count < length c.args.buffer.now = omega (
         arith,
-        start.pre.1,
-        length-drop l.loop.count (whole start),
-        ap length l.loop.inv.4,
-        run-some start.args.alphabet (drop l.loop.at (codes start)),
+        c.requires.1,
+        length-drop c.loop-alphabet.count (whole),
+        ap length c.loop-alphabet.invariant.4,
+        run-some c.args.alphabet (drop c.loop-alphabet.at (codes)),
       ) in
     omega (arith, room, c.loop-alphabet.invariant.2)
 
@@ -57,14 +53,12 @@ pub bounds-buffer-first : goal.bounds-buffer-first
 bounds-buffer-first c = 
     let codes : List ℕ = c.args.codes.now in
     let whole : List ℕ = run c.args.alphabet (codes) in
-    let start : tie.Start invariant-loop decreases-loop = c in
-    let l : tie.At-loop invariant-loop decreases-loop = c in
-    let room : start.args.place.0 + l.loop.count < length start.args.buffer.now = omega (
+    let room : c.args.place.0 + c.loop-alphabet.count < length c.args.buffer.now = omega (
         arith,
-        start.pre.1,
-        length-drop l.loop.count (whole start),
-        ap length l.loop.inv.4,
-        run-some start.args.alphabet (drop l.loop.at (codes start)),
+        c.requires.1,
+        length-drop c.loop-alphabet.count (whole),
+        ap length c.loop-alphabet.invariant.4,
+        run-some c.args.alphabet (drop c.loop-alphabet.at (codes)),
       ) in
     omega (arith, room, c.loop-alphabet.invariant.2)
 
@@ -78,10 +72,8 @@ pub returns-then-left-size : goal.returns-then-left-size
 returns-then-left-size c = 
     let codes : List ℕ = c.args.codes.now in
     let whole : List ℕ = run c.args.alphabet (codes) in
-    let start : tie.Start invariant-loop decreases-loop = c in
-    let l : tie.At-loop invariant-loop decreases-loop = c in
-    let taken : c.encode-next.result.size ≡ size start.args.alphabet (drop l.loop.at (codes start)) = size_is start.args.alphabet (codes start) l.loop.at _ c.encode-next.ensures.size in
-    let packed : c.encode-next.result.packet ≡ packet start.args.alphabet (drop l.loop.at (codes start)) = packet-is start.args.alphabet (codes start) l.loop.at _ start.pre.0 c.encode-next.ensures.packet in
+    let taken : c.encode-next.result.size ≡ size c.args.alphabet (drop c.loop-alphabet.at (codes)) = size_is c.args.alphabet (codes) c.loop-alphabet.at _ c.encode-next.ensures.size in
+    let packed : c.encode-next.result.packet ≡ packet c.args.alphabet (drop c.loop-alphabet.at (codes)) = packet-is c.args.alphabet (codes) c.loop-alphabet.at _ c.requires.0 c.encode-next.ensures.packet in
     let l = c.loop-alphabet in
     let p = c.encode-next.result.packet in
     let r : drop l.count (whole) ≡ p ∷ [] = l.invariant.4 ∙ rw (packed) (run_ends _ _ l.at _ (taken) c.if-left-size.true) in record { count = store_count (whole) c.args.buffer.now c.args.place.0 l.count l.buffer l.invariant.3 p [] r c.requires.1 refl; packets = store_ends (whole) c.args.buffer.now c.args.place.0 l.count l.buffer l.invariant.3 p [] r c.requires.1 refl }
@@ -92,21 +84,17 @@ overflow_add-at c = omega arith
 pub loop-alphabet-smaller : goal.loop-alphabet-smaller
 loop-alphabet-smaller c = 
     let codes : List ℕ = c.args.codes.now in
-    let start : tie.Start invariant-loop decreases-loop = c in
-    let l : tie.At-loop invariant-loop decreases-loop = c in
-    let taken : c.encode-next.result.size ≡ size start.args.alphabet (drop l.loop.at (codes start)) = size_is start.args.alphabet (codes start) l.loop.at _ c.encode-next.ensures.size in
-    let some : (h : l.loop.at < length (codes start)) → 0 < c.encode-next.result.size = λ (h : l.loop.at < length (codes start)). rw taken (size-some _ (drop l.loop.at (codes start)) (omega (arith, length-drop l.loop.at (codes start)))) in
+    let taken : c.encode-next.result.size ≡ size c.args.alphabet (drop c.loop-alphabet.at (codes)) = size_is c.args.alphabet (codes) c.loop-alphabet.at _ c.encode-next.ensures.size in
+    let some : (h : c.loop-alphabet.at < length (codes)) → 0 < c.encode-next.result.size = λ (h : c.loop-alphabet.at < length (codes)). rw taken (size-some _ (drop c.loop-alphabet.at (codes)) (omega (arith, length-drop c.loop-alphabet.at (codes)))) in
     omega (arith, some (omega arith))
 
 pub loop-alphabet-preserved : goal.loop-alphabet-preserved
 loop-alphabet-preserved c = 
     let codes : List ℕ = c.args.codes.now in
     let whole : List ℕ = run c.args.alphabet (codes) in
-    let start : tie.Start invariant-loop decreases-loop = c in
-    let l : tie.At-loop invariant-loop decreases-loop = c in
-    let taken : c.encode-next.result.size ≡ size start.args.alphabet (drop l.loop.at (codes start)) = size_is start.args.alphabet (codes start) l.loop.at _ c.encode-next.ensures.size in
-    let packed : c.encode-next.result.packet ≡ packet start.args.alphabet (drop l.loop.at (codes start)) = packet-is start.args.alphabet (codes start) l.loop.at _ start.pre.0 c.encode-next.ensures.packet in
-    let some : (h : l.loop.at < length (codes start)) → 0 < c.encode-next.result.size = λ (h : l.loop.at < length (codes start)). rw taken (size-some _ (drop l.loop.at (codes start)) (omega (arith, length-drop l.loop.at (codes start)))) in
+    let taken : c.encode-next.result.size ≡ size c.args.alphabet (drop c.loop-alphabet.at (codes)) = size_is c.args.alphabet (codes) c.loop-alphabet.at _ c.encode-next.ensures.size in
+    let packed : c.encode-next.result.packet ≡ packet c.args.alphabet (drop c.loop-alphabet.at (codes)) = packet-is c.args.alphabet (codes) c.loop-alphabet.at _ c.requires.0 c.encode-next.ensures.packet in
+    let some : (h : c.loop-alphabet.at < length (codes)) → 0 < c.encode-next.result.size = λ (h : c.loop-alphabet.at < length (codes)). rw taken (size-some _ (drop c.loop-alphabet.at (codes)) (omega (arith, length-drop c.loop-alphabet.at (codes)))) in
     let l = c.loop-alphabet in
     let p = c.encode-next.result.packet in
     let more = run c.args.alphabet (drop (l.at + c.encode-next.result.size) (codes)) in
