@@ -1,0 +1,6 @@
+-- `elements::element`: the reader with all sixteen depths left. Assumes nothing.
+use borrow.Author.Rules.{rules}
+use Rattle.elements.proofs.element.Goals as goal
+
+pub returns : goal.returns
+returns c = c.element_within.ensures
