@@ -1,4 +1,5 @@
+-- `listing::put_decimal`: a tenth of the number is smaller.
 use Rattle.listing.proofs.+put_decimal.Given as goal
 
-abbrev pub decreases : goal.decreases
-decreases l = l.n
+abbrev pub decreases-put_decimal : goal.decreases-put_decimal
+decreases-put_decimal l = l.n

@@ -16,19 +16,19 @@ returns-then-n-from c = rw (eq-eqb _ _ c.if-n-from.true)
 pub returns-in_default : goal.returns-in_default
 returns-in_default c = let a = c.args in
     let file = a.file.now in
-    let e : closing true file (a.to - (a.n + 1)) (a.n + 1) ≡ Open = sym c.Closing-at.ensures ∙ c.in_default.is in
+    let e : closing true file (a.to - (a.n + 1)) (a.n + 1) ≡ Open = sym c.closing_at.ensures ∙ c.in_default.is in
     rw (ne_eqb _ _ c.if-n-from.false, e)
 
 pub behind_accession-requires : goal.behind_accession-requires
 behind_accession-requires c = let a = c.args in
     let file = a.file.now in
-    let e : closing true file (a.to - (a.n + 1)) (a.n + 1) ≡ At _ = sym c.Closing-at.ensures ∙ c.in-At.is in
+    let e : closing true file (a.to - (a.n + 1)) (a.n + 1) ≡ At _ = sym c.closing_at.ensures ∙ c.in-At.is in
     let w = within true file a.to (a.n + 1) _ e in
     (omega arith, omega arith, omega arith)
 
 pub returns : goal.returns
 returns c = let a = c.args in
     let file = a.file.now in
-    let e : closing true file (a.to - (a.n + 1)) (a.n + 1) ≡ At _ = sym c.Closing-at.ensures ∙
+    let e : closing true file (a.to - (a.n + 1)) (a.n + 1) ≡ At _ = sym c.closing_at.ensures ∙
     c.in-At.is in
     rw (ne_eqb _ _ c.if-n-from.false, e) c.behind_accession.ensures

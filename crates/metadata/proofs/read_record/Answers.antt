@@ -13,13 +13,13 @@ pub returns-in_default : goal.returns-in_default
 unfolding texts_in
 returns-in_default c = let a = c.args in
     let file = a.file.now in
-    let e : closing true file (a.end.0 - a.start.0) a.start.0 ≡ Open = sym c.Closing-at.ensures ∙ c.in_default.is in
+    let e : closing true file (a.end.0 - a.start.0) a.start.0 ≡ Open = sym c.closing_at.ensures ∙ c.in_default.is in
     rw e
 
 pub behind_name-requires : goal.behind_name-requires
 behind_name-requires c = let a = c.args in
     let file = a.file.now in
-    let e : closing true file (a.end.0 - a.start.0) a.start.0 ≡ At _ = sym c.Closing-at.ensures ∙
+    let e : closing true file (a.end.0 - a.start.0) a.start.0 ≡ At _ = sym c.closing_at.ensures ∙
     c.in-At.is in
     let w = within true file a.end.0 a.start.0 _ e in
     (omega arith, omega arith)
@@ -28,6 +28,6 @@ pub returns : goal.returns
 unfolding texts_in
 returns c = let a = c.args in
     let file = a.file.now in
-    let e : closing true file (a.end.0 - a.start.0) a.start.0 ≡ At _ = sym c.Closing-at.ensures ∙
+    let e : closing true file (a.end.0 - a.start.0) a.start.0 ≡ At _ = sym c.closing_at.ensures ∙
     c.in-At.is in
     rw e c.behind_name.ensures
