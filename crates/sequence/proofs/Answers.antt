@@ -155,12 +155,12 @@ module _ (index sequence : List ℕ) (i room : ℕ) where
     pub own_protein : is_protein index ≡ true
         → verdict Refused (Decoded (protein_length index i)) (protein_rules index sequence i ++ room_rules (protein_length index i) room)
         ≡ own_answer index sequence i room
-    own_protein t = rw (lt-ltb i (sequences index) h, t)
+    own_protein t = simp (lt-ltb i (sequences index) h, t)
 
     pub own_dna : is_protein index ≡ false
         → verdict Refused (Decoded (dna_length index sequence i)) (dna_rules index sequence i ++ room_rules (dna_length index sequence i) room)
         ≡ own_answer index sequence i room
-    own_dna t = rw (lt-ltb i (sequences index) h, t)
+    own_dna t = simp (lt-ltb i (sequences index) h, t)
 
     -- what decoding by the places answers
     pub own_placed_protein : is_protein index ≡ true → (e : Entry) → e ≡ protein_entry index i

@@ -1,0 +1,17 @@
+-- `byte_runs::packing::put_sixteen`: the packets written so far. Assumes nothing.
+use mathlib.Core.Path.{◌≡◌, refl, ◌∙◌}
+use native.Mathlib.Omega.{arith}
+use Prim.Native.Nat.{◌≤◌, ◌-◌, ◌+◌}
+use lib.ListN.{length, take, drop}
+use Rattle.laws.specs.Writing.{written_at}
+use Rattle.laws.proofs.Writing.{drop-step}
+use Rattle.packets.specs.Bytes.{bytes_of}
+use Rattle.byte_runs.proofs.Packed.{put_none, put_more, put_all}
+use borrow.Author.Rules.{rules}
+use Rattle.byte_runs.proofs.packing.put_sixteen.Given as goal
+
+abbrev pub invariant-loop-j : goal.invariant-loop-j
+invariant-loop-j l = (l.j ≤ 16) × (length l.out ≡ length l.initial.out) × (l.out ≡ written_at 0 (bytes_of (take l.j l.packets)) l.initial.out)
+
+abbrev pub decreases-loop-j : goal.decreases-loop-j
+decreases-loop-j l = 16 - l.j

@@ -1,0 +1,19 @@
+-- `byte_runs::packing::write_few`: the packets written so far. Assumes nothing.
+use mathlib.Core.Path.{◌≡◌, refl, sym, ap, ◌∙◌}
+use mathlib.Core.List.{[], ◌∷◌}
+use native.Mathlib.Omega.{arith}
+use Prim.Native.Nat.{ℕ, ◌≤◌, ◌-◌, ◌*◌}
+use lib.ListN.{length, take, drop}
+use Rattle.laws.specs.Writing.{written_at}
+use Rattle.packets.specs.Packing.{five_bit_part}
+use Rattle.packets.specs.Bytes.{bytes_of}
+use Rattle.byte_runs.specs.Packed.{fives}
+use Rattle.byte_runs.proofs.Packed.{put_none, parts_put, parts_one, put_all, length_parts}
+use borrow.Author.Rules.{rules}
+use Rattle.byte_runs.proofs.packing.write_few.Given as goal
+
+abbrev pub invariant-loop-i : goal.invariant-loop-i
+invariant-loop-i l = (l.i ≤ l.count) × (length l.out ≡ length l.initial.out) × (l.out ≡ written_at 0 (bytes_of (take l.i (fives l.codes l.count))) l.initial.out)
+
+abbrev pub decreases-loop-i : goal.decreases-loop-i
+decreases-loop-i l = l.count - l.i

@@ -1,0 +1,23 @@
+-- `byte_runs::packing::write_nucleic_run`: what is left, written behind what is written, is what was left before. Assumes nothing.
+use mathlib.Core.Path.{◌≡◌, refl, sym, ap, ◌∙◌}
+use mathlib.Core.List.{List, [], ◌∷◌}
+use Prim.Native.Nat.{ℕ, ◌≤◌, ◌-◌, ◌+◌, ◌*◌, ◌/◌}
+use native.Mathlib.Omega.{arith}
+use lib.ListN.{length, drop, length-drop}
+use Rattle.laws.specs.Writing.{written_at}
+use Rattle.packets.specs.Packing.{run, packet}
+use Rattle.packets.specs.Bytes.{bytes_of}
+use Rattle.packets.proofs.Packing.{size-some, run-some}
+use Rattle.runs.proofs.Turns.{size_is, packet-is, run_ends, run_goes}
+use Rattle.byte_runs.proofs.RunBegun.{begun-whole, begun-length, put_next, put_one_length}
+use borrow.Author.Rules.{rules}
+use Rattle.byte_runs.proofs.packing.write_nucleic_run.Given as goal
+
+abbrev pub invariant-loop-at : goal.invariant-loop-at
+invariant-loop-at l = (l.at ≤ length l.codes - 1) × (l.count + length (run 1 (drop l.at l.codes)) ≡ l.initial.count + length (run 1
+    (drop l.initial.at l.codes))) × (length l.out ≡ length l.initial.out)
+    × (l.count + length (run 1 (drop l.at l.codes)) ≤ length l.out / 4)
+    × (written_at (4 * l.count) (bytes_of (run 1 (drop l.at l.codes))) l.out ≡ written_at (4 * l.initial.count) (bytes_of (run 1 (drop l.initial.at l.codes))) l.initial.out)
+
+abbrev pub decreases-loop-at : goal.decreases-loop-at
+decreases-loop-at l = length l.codes - l.at

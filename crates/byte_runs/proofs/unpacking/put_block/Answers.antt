@@ -1,0 +1,96 @@
+-- `byte_runs::unpacking::put_block`: sixteen packets of one kind, or of both. Assumes nothing.
+use mathlib.Core.Path.{◌≡◌, refl, sym, ap, ◌∙◌}
+use Prim.Native.Nat.{ℕ, ◌+◌, ◌*◌, ◌-◌, ◌/◌, ◌%◌, ◌≤◌, ◌<◌}
+use native.Mathlib.Omega.{arith}
+use mathlib.Core.Bool.{true, false}
+use lib.ListN.{length}
+use Rattle.laws.specs.Writing.{Begun}
+use Rattle.residues.specs.Alphabets.{is_amino}
+use Rattle.packets.specs.Bytes.{packets_of}
+use Rattle.packets.specs.Decoded.{codes_from}
+use Rattle.laws.proofs.Begun.{begun_written, begun_wider}
+use Rattle.packets.proofs.Behind.{no_fives}
+use Rattle.byte_runs.specs.Blocks.{margin}
+use Rattle.byte_runs.proofs.Blocks.{fives-count, twos-count, front-is}
+use borrow.Author.Rules.{rules}
+use Rattle.byte_runs.proofs.unpacking.put_block.Goals as goal
+
+pub put_sixes-requires : goal.put_sixes-requires
+put_sixes-requires c = 
+    let a = c.args in
+    let ps = packets_of a.block.now in
+    let t : is_amino a.alphabet ≡ true = sym c.is_amino.ensures ∙ c.if-is_amino.true in (
+      (
+        c.requires.0.0,
+        omega (
+          arith,
+          c.requires.0.1,
+          fives-count ps 16 16 (c.requires.1 t)
+              (omega arith),
+        ),
+      ),
+      c.requires.1 t,
+    )
+
+pub overflow_add-result : goal.overflow_add-result
+overflow_add-result c = 
+    let a = c.args in
+    let t : is_amino a.alphabet ≡ true = sym c.is_amino.ensures ∙
+    c.if-is_amino.true in
+    omega (
+      arith,
+      c.requires.0.1,
+      fives-count (packets_of a.block.now) 16 16
+          (c.requires.1 t) (omega arith),
+    )
+
+pub returns-then-is_amino : goal.returns-then-is_amino
+returns-then-is_amino c = 
+    let a = c.args in
+    let ps = packets_of a.block.now in
+    let t : is_amino a.alphabet ≡ true = sym c.is_amino.ensures ∙
+    c.if-is_amino.true in
+    let n = fives-count ps 16 16 (c.requires.1 t) (omega arith) in record { behind = omega arith; codes = rw (c.put_sixes.ensures, t)
+          (begun_written a.place (a.place + 96 + 0) (codes_from ps 0 16) (codes_from ps 0 16) a.out.now (front-is _ _ refl) (omega arith)
+          (omega (arith, c.requires.0.1))) }
+
+pub put_bases-requires : goal.put_bases-requires
+put_bases-requires c = 
+    let ps = packets_of c.args.block.now in
+    let f : is_amino c.args.alphabet ≡ false = sym
+    c.is_amino.ensures ∙ c.if-is_amino.false in
+    let m : margin c.args.alphabet ≡ 10 = rw f in
+    let t = no_fives ps 16 (sym c.five_bit_packets.ensures ∙ c.if-five_bit_packets-eq0.true) in (
+      (
+        c.requires.0.0,
+        omega
+            (arith, c.requires.0.1, twos-count ps 16 16 t (omega arith)),
+      ),
+      t,
+    )
+
+pub returns-then-five_bit_packets-eq0 : goal.returns-then-five_bit_packets-eq0
+returns-then-five_bit_packets-eq0 c = 
+    let a = c.args in
+    let ps = packets_of a.block.now in
+    let f : is_amino a.alphabet ≡ false = sym c.is_amino.ensures ∙
+    c.if-is_amino.false in
+    let t = no_fives ps 16 (sym c.five_bit_packets.ensures ∙ c.if-five_bit_packets-eq0.true) in record { behind = omega (arith, twos-count ps 16 16 t (omega arith)); codes = rw f (begun_wider a.place (a.place + 241) (a.place + 240 + 10) (codes_from ps 0 16) a.out.now _ (omega arith)
+          c.put_bases.ensures) }
+
+pub put_mixed-requires : goal.put_mixed-requires
+put_mixed-requires c = 
+    let f : is_amino c.args.alphabet ≡ false = sym
+    c.is_amino.ensures ∙ c.if-is_amino.false in
+    let m : margin c.args.alphabet ≡ 10 = rw f in (
+      c.requires.0.0,
+      omega
+          (arith, c.requires.0.1),
+    )
+
+pub returns : goal.returns
+returns c = 
+    let f : is_amino c.args.alphabet ≡ false = sym
+    c.is_amino.ensures ∙
+    c.if-is_amino.false in
+    record { behind = c.put_mixed.ensures.behind; codes = rw f c.put_mixed.ensures.codes }

@@ -1,0 +1,18 @@
+-- `byte_runs::unpacking::put_six`: two numbers, one behind the other. Assumes nothing.
+use mathlib.Core.Path.{ap, ◌∙◌}
+use mathlib.Core.List.{List}
+use Prim.Native.Nat.{ℕ, ◌+◌}
+use native.Mathlib.Omega.{arith}
+use Rattle.laws.specs.Writing.{written_at}
+use Rattle.laws.proofs.Writing.{written_twice}
+use Rattle.fields.specs.Written.{little_bytes}
+use borrow.Author.Rules.{rules}
+use Rattle.byte_runs.proofs.unpacking.put_six.Goals as goal
+
+pub returns : goal.returns
+returns c = 
+    let a = c.args in
+    c.store-2.ensures
+    ∙ (ap (λ (l : List ℕ). written_at (a.at + 4) (little_bytes 2 a.two) l) c.store.ensures
+    ∙ written_twice a.at (little_bytes 4 a.four) (little_bytes 2 a.two) a.out.now
+    (omega (arith, c.requires)))

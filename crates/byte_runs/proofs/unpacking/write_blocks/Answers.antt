@@ -1,0 +1,115 @@
+-- `byte_runs::unpacking::write_blocks`: the codes of the blocks so far. Assumes nothing.
+use mathlib.Core.Path.{◌≡◌, refl, sym, ap, ◌∙◌}
+use Prim.Native.Nat.{ℕ, ◌+◌, ◌*◌, ◌-◌, ◌/◌, ◌%◌, ◌≤◌, ◌<◌}
+use native.Mathlib.Omega.{arith}
+use mathlib.Core.Bool.{true}
+use lib.Dec.{eqb}
+use lib.ListN.{length, take, drop, length-drop}
+use borrow.Author.Tests.{eqb-true}
+use Rattle.laws.specs.Writing.{Begun}
+use Rattle.fields.specs.Number.{little}
+use Rattle.packets.specs.Runs.{well_formed, unpacked}
+use Rattle.packets.specs.Bytes.{packets_of}
+use Rattle.packets.specs.Decoded.{codes_from}
+use Rattle.laws.proofs.Parts.{part_rest}
+use Rattle.packets.proofs.Bytes.{length-packets}
+use Rattle.byte_runs.specs.Blocks.{AllOf, spare, margin}
+use Rattle.byte_runs.proofs.Stores.{byte_is}
+use Rattle.packets.proofs.Behind.{begun-start, none_yet}
+use Rattle.byte_runs.proofs.Blocks.{block_codes, block_fives, block_count, block_room, block_begun}
+use borrow.Author.Rules.{rules}
+use Rattle.byte_runs.proofs.unpacking.write_blocks.Goals as goal
+
+pub loop-i-init : goal.loop-i-init
+loop-i-init c = 
+    let ps = packets_of c.args.bytes.now in
+    (omega arith, sym (none_yet ps 0), begun-start ps 0 0 (length (unpacked ps)) c.args.out.now)
+
+pub overflow_mul-i : goal.overflow_mul-i
+overflow_mul-i c = omega (arith, c.requires.1, length-packets little c.args.bytes.now)
+
+pub slice_bounds-put_block-count : goal.slice_bounds-put_block-count
+slice_bounds-put_block-count c = omega (
+  arith,
+  c.byte_of-from.ensures,
+  c.requires.1,
+  length-packets little
+      c.args.bytes.now,
+)
+
+pub slice_bounds-put_block-start : goal.slice_bounds-put_block-start
+slice_bounds-put_block-start c = omega (
+  arith,
+  c.byte_of-from.ensures,
+  c.requires.1,
+  length-packets little
+      c.args.bytes.now,
+)
+
+pub put_block-at-requires : goal.put_block-at-requires
+put_block-at-requires c = 
+    let a = c.args in
+    let l = c.loop-i in
+    let b = a.bytes.now in
+    let ps = packets_of b in
+    let n = length-packets little b in
+    let s = c.byte_of-from.result.0 in
+    let here : s ≡ 4 * (16 * l.i) = omega (
+      arith,
+      c.byte_of-from.ensures,
+      c.requires.1,
+    ) in
+    let behind : 16 * l.i + 16 + spare a.alphabet < length ps = omega (arith, c.requires.1) in
+    let rest = part_rest b s in
+    let codes : length (codes_from (packets_of (drop s b)) 0 16) ≡ length (codes_from ps (16 * l.i) 16) = ap length (block_codes b l.i s here (omega arith)) in
+    rw rest (
+      (
+        omega (arith, length-drop s b),
+        omega (
+          arith,
+          c.requires.0.1,
+          l.invariant.1,
+          l.invariant.2.size,
+          block_room
+              a.alphabet ps c.requires.0.0 l.i behind,
+        ),
+      ),
+      λ t. block_fives b l.i s here (omega arith) (rw (eqb-true a.alphabet 3 t) at
+          c.requires.0.0) (omega arith),
+    )
+
+pub loop-i-preserved : goal.loop-i-preserved
+loop-i-preserved c = 
+    let a = c.args in
+    let l = c.loop-i in
+    let b = a.bytes.now in
+    let ps = packets_of b in
+    let n = length-packets little b in
+    let s = c.byte_of-from.result.0 in
+    let here : s ≡ 4 * (16 * l.i) = omega (
+      arith,
+      c.byte_of-from.ensures,
+      c.requires.1,
+    ) in
+    let behind : 16 * l.i + 16 + spare a.alphabet < length ps = omega
+    (arith, c.requires.1) in
+    let o = c.put_block-at in
+    let e : codes_from (packets_of (take (length b - s) (drop s b))) 0 16 ≡ codes_from ps (16 * l.i) 16 = rw (part_rest b s)
+    (block_codes b l.i s here (omega arith)) in
+    let r : o.result ≡ length (codes_from ps 0 (16 * l.i)) + length (codes_from ps (16 * l.i) 16) = o.ensures.behind ∙ rw (e, l.invariant.1) in (
+      omega arith,
+      r ∙ sym (block_count a.alphabet ps c.requires.0.0 l.i behind),
+      block_begun a.alphabet ps c.requires.0.0 l.i behind
+          (length (unpacked ps)) a.out.now l.out _
+          (block_room a.alphabet ps c.requires.0.0
+          l.i behind) l.invariant.2 (rw (r, e, l.invariant.1) at o.ensures.codes),
+    )
+
+pub shape_of-out : goal.shape_of-out
+shape_of-out c = c.loop-i.invariant.2.size
+
+pub returns : goal.returns
+returns c = 
+    let l = c.loop-i in
+    let n : l.i ≡ c.args.blocks = omega arith in
+    record { count = l.invariant.1 ∙ rw n; codes = rw (← n) l.invariant.2 }

@@ -1,0 +1,7 @@
+-- `sequence::bases::bases`: the digits of the products are the two-bit digits of the byte. Assumes nothing.
+use Rattle.sequence.proofs.FourBases.{four_bases}
+use borrow.Author.Rules.{rules}
+use Rattle.sequence.proofs.bases.bases.Goals as goal
+
+pub returns : goal.returns
+returns c = four_bases c.args.byte c.ranges.byte.fits

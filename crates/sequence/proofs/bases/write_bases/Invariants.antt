@@ -1,0 +1,24 @@
+-- `sequence::bases::write_bases`: behind the whole bytes, the residues passed of the last byte are written, and the rest of the output is as it was.
+-- Assumes nothing.
+use mathlib.Core.Path.{◌≡◌, refl, sym, ap, ◌∙◌}
+use mathlib.Core.List.{List}
+use native.Mathlib.Omega.{arith}
+use Prim.Native.Nat.{ℕ, ◌≤◌, ◌-◌, ◌*◌, ◌/◌}
+use lib.ListN.{length, get_or, set, length-set}
+use Rattle.laws.specs.Writing.{written_at}
+use Rattle.laws.proofs.Storing.{store_front}
+use Rattle.sequence.specs.Bases.{two_bit_residues, base_at}
+use Rattle.sequence.proofs.FourBases.{base_is}
+use borrow.Author.Rules.{rules}
+use Rattle.sequence.proofs.bases.write_bases.Given as goal
+
+abbrev pub invariant-loop-k : goal.invariant-loop-k
+invariant-loop-k l =
+    (4 * l.whole ≤ l.k)
+    × (l.k ≤ l.l)
+    × (length l.out ≡ length l.initial.out)
+    × ((old : List ℕ) → length old ≡ length l.initial.out → l.initial.out ≡ written_at 0 (two_bit_residues l.sequence l.start (4 * l.whole)) old
+    → l.out ≡ written_at 0 (two_bit_residues l.sequence l.start l.k) old)
+
+abbrev pub decreases-loop-k : goal.decreases-loop-k
+decreases-loop-k l = l.l - l.k

@@ -1,0 +1,18 @@
+-- `sequence::bases::write_proteins`: each sixteen are written behind those before; the last sixteen over some of them. Assumes nothing.
+use mathlib.Core.Path.{◌≡◌, refl, ◌∙◌}
+use native.Mathlib.Omega.{arith}
+use Prim.Native.Nat.{ℕ, ◌≤◌, ◌-◌, ◌+◌}
+use lib.ListN.{length}
+use Rattle.laws.specs.Writing.{written_at}
+use Rattle.laws.proofs.Storing.{store_none}
+use Rattle.residues.specs.Tables.{protein_code}
+use Rattle.sequence.specs.Sequence.{byte_from, protein_residues}
+use Rattle.sequence.proofs.Blocks.{block_stored}
+use borrow.Author.Rules.{rules}
+use Rattle.sequence.proofs.bases.write_proteins.Given as goal
+
+abbrev pub invariant-loop-k : goal.invariant-loop-k
+invariant-loop-k l = (l.k ≤ l.l) × (length l.out ≡ length l.initial.out) × (l.out ≡ written_at 0 (protein_residues l.sequence l.start l.k) l.initial.out)
+
+abbrev pub decreases-loop-k : goal.decreases-loop-k
+decreases-loop-k l = l.l - l.k

@@ -1,0 +1,17 @@
+-- `sequence::table::put_eight`: the bases of the pairs passed are written, and the rest of the output is as it was. Assumes nothing.
+use mathlib.Core.Path.{◌≡◌, refl, ◌∙◌}
+use Prim.Native.Nat.{◌≤◌, ◌-◌, ◌+◌, ◌*◌}
+use native.Mathlib.Omega.{arith}
+use lib.ListN.{length}
+use Rattle.laws.specs.Writing.{written_at}
+use Rattle.laws.proofs.Storing.{store_none}
+use Rattle.sequence.specs.Bases.{base_at, two_bit_residues}
+use Rattle.sequence.proofs.BaseTable.{residues_stored}
+use borrow.Author.Rules.{rules}
+use Rattle.sequence.proofs.table.put_eight.Given as goal
+
+abbrev pub invariant-loop-i : goal.invariant-loop-i
+invariant-loop-i l = (l.i ≤ 4) × (length l.out ≡ length l.initial.out) × (l.out ≡ written_at l.place (two_bit_residues l.sequence l.at (8 * l.i)) l.initial.out)
+
+abbrev pub decreases-loop-i : goal.decreases-loop-i
+decreases-loop-i l = 4 - l.i

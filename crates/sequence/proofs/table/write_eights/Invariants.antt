@@ -1,0 +1,17 @@
+-- `sequence::table::write_eights`: each eight bytes are written behind those before; the last eight over some of them. Assumes nothing.
+use mathlib.Core.Path.{◌≡◌, refl, ◌∙◌}
+use Prim.Native.Nat.{◌≤◌, ◌-◌, ◌+◌, ◌*◌}
+use native.Mathlib.Omega.{arith}
+use lib.ListN.{length}
+use Rattle.laws.specs.Writing.{written_at}
+use Rattle.laws.proofs.Storing.{store_none}
+use Rattle.sequence.specs.Bases.{base_at, two_bit_residues}
+use Rattle.sequence.proofs.BaseTable.{residues_stored}
+use borrow.Author.Rules.{rules}
+use Rattle.sequence.proofs.table.write_eights.Given as goal
+
+abbrev pub invariant-loop-m : goal.invariant-loop-m
+invariant-loop-m l = (l.m ≤ l.count) × (length l.out ≡ length l.initial.out) × (l.out ≡ written_at 0 (two_bit_residues l.sequence l.start (4 * l.m)) l.initial.out)
+
+abbrev pub decreases-loop-m : goal.decreases-loop-m
+decreases-loop-m l = l.count - l.m
