@@ -31,9 +31,6 @@ loop-j-preserved c =
       rest_step (little_bytes a.count a.n) j (v % 256) (little_bytes (a.count - (j + 1)) (v / 256)) e,
     )
 
-pub shape_of-out : goal.shape_of-out
-shape_of-out c = c.loop-j.invariant.1
-
 pub returns : goal.returns
 returns c = 
     let l = c.loop-j in

@@ -28,9 +28,6 @@ loop-j-preserved c = let R = c.args.packets.now in
           ))) (omega arith) (omega arith),
     )
 
-pub shape_of-out : goal.shape_of-out
-shape_of-out c = c.loop-j.invariant.1
-
 pub returns : goal.returns
 returns c = put_all c.args.packets.now c.args.out.now c.loop-j.out
     c.loop-j.j (omega (arith, c.requires.0)) c.loop-j.invariant.2

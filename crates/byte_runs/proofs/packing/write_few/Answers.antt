@@ -31,9 +31,6 @@ loop-i-preserved c = let a = c.args in
           (6 * l.i) cs))) (omega arith) (omega arith),
     )
 
-pub shape_of-out : goal.shape_of-out
-shape_of-out c = c.loop-i.invariant.1
-
 pub returns : goal.returns
 returns c = put_all (fives c.args.codes.now c.args.count) c.args.out.now c.loop-i.out c.loop-i.i (omega (
   arith,

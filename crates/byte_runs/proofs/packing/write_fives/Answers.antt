@@ -81,7 +81,7 @@ loop-i-preserved c =
       l.invariant.1,
     ) in
     let e = parts_lent (λ next. five_bit_part next) 6 a.codes.now a.count k 16 (omega (arith, b)) l.i a.out.now l.out
-    c.sixteen_fives-packets.result c.put_sixteen.new.1.0
+    c.sixteen_fives-packets.result c.put_sixteen.new.out
     c.byte_of-start.result.0 l.invariant.3
     c.requires.2 l.invariant.2
     c.sixteen_fives-packets.ensures
@@ -95,9 +95,6 @@ loop-i-preserved c =
       )),
       e,
     )
-
-pub shape_of-out : goal.shape_of-out
-shape_of-out c = c.loop-i.invariant.2
 
 pub returns : goal.returns
 returns c = 

@@ -39,7 +39,7 @@ loop-at-preserved-then-row-eq16 c =
     let start : c.byte_of-start.result.0 ≡ 4 * c.loop-at.count = omega (arith, c.byte_of-start.ensures, room) in
     let r = c.write_twos-n in
     let l = c in (
-      begun_block _ _ _ _ _ c.loop-at.invariant.0 c.requires.1 r.result c.byte_of-start.result.0 r.new.1.0 (start)
+      begun_block _ _ _ _ _ c.loop-at.invariant.0 c.requires.1 r.result c.byte_of-start.result.0 r.new.out (start)
           r.ensures.plain.0 r.ensures.plain.1 r.ensures.bytes,
       omega arith,
     )
@@ -72,9 +72,6 @@ loop-at-preserved c = let l = c in (
           (sym c.next_two_bit.ensures ∙ c.in-Packet.is) (omega arith) c.put_packet-in-loop-at.ensures,
       omega arith,
     )
-
-pub shape_of-out : goal.shape_of-out
-shape_of-out c = c.loop-at.invariant.0.2
 
 pub returns : goal.returns
 returns c = c.loop-at.invariant.0

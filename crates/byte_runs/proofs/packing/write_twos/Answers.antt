@@ -90,7 +90,7 @@ loop-packets-preserved c =
       c.requires.1,
     ) in
     let e = parts_behind (λ next. two_bit_part next) 15 a.codes.now l.n 16 a.out.now l.out
-    c.sixteen_twos-packets.result c.put_sixteen.new.1.0
+    c.sixteen_twos-packets.result c.put_sixteen.new.out
     c.byte_of-start.result.0 l.invariant.3 r l.invariant.1
     c.sixteen_twos-packets.ensures q c.put_sixteen.ensures in (
       omega (arith, t.0),
@@ -98,9 +98,6 @@ loop-packets-preserved c =
       parts_plain a.codes.now l.n l.invariant.2 t.1,
       e,
     )
-
-pub shape_of-out : goal.shape_of-out
-shape_of-out c = c.loop-packets.invariant.1
 
 pub returns : goal.returns
 returns c = record { plain = (c.loop-packets.invariant.0, c.loop-packets.invariant.2); bytes = c.loop-packets.invariant.3 }

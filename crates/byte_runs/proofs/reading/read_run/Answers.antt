@@ -56,7 +56,7 @@ inner_codes-before-requires c =
     let bytes : List ℕ = c.args.bytes.now in
     let packets : List ℕ = packets_by c.args.order (bytes) in
     let no-fault : let s = c in inner_to c.args.alphabet (packets) (length (bytes) / 4 - 1) ≡ true = let f = c.inner_faults in sym f.ensures ∙ eq-eqb f.result 0 c.if-inner_faults-ne0.false in
-    ((omega arith, omega arith), no-fault)
+    record { count_in_bounds = (omega arith, omega arith); count_value = no-fault }
 
 pub overflow_add-result : goal.overflow_add-result
 overflow_add-result c = 

@@ -18,7 +18,7 @@ pub loop-i-init : goal.loop-i-init
 loop-i-init c = (omega arith, refl, refl, refl, refl, λ j h. absurd (let z : ⊥ = omega arith in z))
 
 pub packet_at-packet-requires : goal.packet_at-packet-requires
-packet_at-packet-requires c = omega (arith, c.requires.0.0)
+packet_at-packet-requires c = omega (arith, c.requires.in_bounds.0)
 
 pub loop-i-preserved : goal.loop-i-preserved
 loop-i-preserved c = 
@@ -30,7 +30,7 @@ loop-i-preserved c =
     let x = c.four_bases-in-loop-i in
     let y = c.four_bases-in-loop-i-2 in
     let z = c.four_bases-in-loop-i-3 in
-    let t = codes_two p.result (ap is_five_bit p.ensures ∙ c.requires.1
+    let t = codes_two p.result (ap is_five_bit p.ensures ∙ c.requires.all_of
     l.i (omega arith)) in
     let f : Fronts (codes_in p.result) (bytes_of_four w.result x.result y.result z.result) =
     rw t (two_front p.result w.result x.result y.result z.result w.ensures x.ensures y.ensures z.ensures) in (
@@ -52,7 +52,7 @@ loop-j-init c = (
 )
 
 pub put_four-requires : goal.put_four-requires
-put_four-requires c = omega (arith, c.requires.0.1, c.loop-j.invariant.1.size)
+put_four-requires c = omega (arith, c.requires.in_bounds.1, c.loop-j.invariant.1.size)
 
 pub loop-j-preserved : goal.loop-j-preserved
 loop-j-preserved c = 
@@ -60,15 +60,12 @@ loop-j-preserved c =
     let l = c.loop-i in
     let m = c.loop-j in
     let ps = packets_of a.block.now in
-    let n = twos-count ps 16 m.j c.requires.1 (omega arith) in (
+    let n = twos-count ps 16 m.j c.requires.all_of (omega arith) in (
       omega arith,
       rw c.put_four.ensures
           (begun_more ps m.j a.at (a.at + 15 * m.j) (a.at + 241) a.out.now m.out _ m.invariant.1 (omega arith)
-          (l.invariant.5 m.j (omega arith)) (omega arith) c.requires.0.1),
+          (l.invariant.5 m.j (omega arith)) (omega arith) c.requires.in_bounds.1),
     )
-
-pub shape_of-out : goal.shape_of-out
-shape_of-out c = c.loop-j.invariant.1.size
 
 pub returns : goal.returns
 returns c = let n : c.loop-j.j ≡ 16 = omega arith in rw (← n) c.loop-j.invariant.1

@@ -19,18 +19,15 @@ pub put_sixes-requires : goal.put_sixes-requires
 put_sixes-requires c = 
     let a = c.args in
     let ps = packets_of a.block.now in
-    let t : is_amino a.alphabet ≡ true = sym c.is_amino.ensures ∙ c.if-is_amino.true in (
-      (
-        c.requires.0.0,
+    let t : is_amino a.alphabet ≡ true = sym c.is_amino.ensures ∙ c.if-is_amino.true in record { in_bounds = (
+        c.requires.in_bounds.0,
         omega (
           arith,
-          c.requires.0.1,
-          fives-count ps 16 16 (c.requires.1 t)
+          c.requires.in_bounds.1,
+          fives-count ps 16 16 (c.requires.all_of t)
               (omega arith),
         ),
-      ),
-      c.requires.1 t,
-    )
+      ); all_of = c.requires.all_of t }
 
 pub overflow_add-result : goal.overflow_add-result
 overflow_add-result c = 
@@ -39,9 +36,9 @@ overflow_add-result c =
     c.if-is_amino.true in
     omega (
       arith,
-      c.requires.0.1,
+      c.requires.in_bounds.1,
       fives-count (packets_of a.block.now) 16 16
-          (c.requires.1 t) (omega arith),
+          (c.requires.all_of t) (omega arith),
     )
 
 pub returns-then-is_amino : goal.returns-then-is_amino
@@ -50,9 +47,9 @@ returns-then-is_amino c =
     let ps = packets_of a.block.now in
     let t : is_amino a.alphabet ≡ true = sym c.is_amino.ensures ∙
     c.if-is_amino.true in
-    let n = fives-count ps 16 16 (c.requires.1 t) (omega arith) in record { behind = omega arith; codes = rw (c.put_sixes.ensures, t)
+    let n = fives-count ps 16 16 (c.requires.all_of t) (omega arith) in record { behind = omega arith; codes = rw (c.put_sixes.ensures, t)
           (begun_written a.place (a.place + 96 + 0) (codes_from ps 0 16) (codes_from ps 0 16) a.out.now (front-is _ _ refl) (omega arith)
-          (omega (arith, c.requires.0.1))) }
+          (omega (arith, c.requires.in_bounds.1))) }
 
 pub put_bases-requires : goal.put_bases-requires
 put_bases-requires c = 
@@ -60,14 +57,11 @@ put_bases-requires c =
     let f : is_amino c.args.alphabet ≡ false = sym
     c.is_amino.ensures ∙ c.if-is_amino.false in
     let m : margin c.args.alphabet ≡ 10 = rw f in
-    let t = no_fives ps 16 (sym c.five_bit_packets.ensures ∙ c.if-five_bit_packets-eq0.true) in (
-      (
-        c.requires.0.0,
+    let t = no_fives ps 16 (sym c.five_bit_packets.ensures ∙ c.if-five_bit_packets-eq0.true) in record { in_bounds = (
+        c.requires.in_bounds.0,
         omega
-            (arith, c.requires.0.1, twos-count ps 16 16 t (omega arith)),
-      ),
-      t,
-    )
+            (arith, c.requires.in_bounds.1, twos-count ps 16 16 t (omega arith)),
+      ); all_of = t }
 
 pub returns-then-five_bit_packets-eq0 : goal.returns-then-five_bit_packets-eq0
 returns-then-five_bit_packets-eq0 c = 
@@ -83,9 +77,9 @@ put_mixed-requires c =
     let f : is_amino c.args.alphabet ≡ false = sym
     c.is_amino.ensures ∙ c.if-is_amino.false in
     let m : margin c.args.alphabet ≡ 10 = rw f in (
-      c.requires.0.0,
+      c.requires.in_bounds.0,
       omega
-          (arith, c.requires.0.1),
+          (arith, c.requires.in_bounds.1),
     )
 
 pub returns : goal.returns

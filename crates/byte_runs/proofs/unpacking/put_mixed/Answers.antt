@@ -100,9 +100,6 @@ loop-j-preserved c =
           c.requires.1),
     )
 
-pub shape_of-out : goal.shape_of-out
-shape_of-out c = c.loop-j.invariant.2.size
-
 pub returns : goal.returns
 returns c = 
     let m = c.loop-j in

@@ -19,7 +19,7 @@ pub loop-i-init : goal.loop-i-init
 loop-i-init c = (omega arith, refl, refl, λ j h. absurd (let z : ⊥ = omega arith in z))
 
 pub packet_at-packet-requires : goal.packet_at-packet-requires
-packet_at-packet-requires c = omega (arith, c.requires.0.0)
+packet_at-packet-requires c = omega (arith, c.requires.in_bounds.0)
 
 pub loop-i-preserved : goal.loop-i-preserved
 loop-i-preserved c = 
@@ -34,7 +34,7 @@ loop-i-preserved c =
       simp length-set l.invariant.2,
       two_more ps l.i p.result p.ensures x.result y.result l.fours l.twos l.invariant.3 (omega arith) (omega arith)
           (six_parts p.result x.result y.result x.ensures y.ensures
-          ∙ sym (codes_five p.result (ap is_five_bit p.ensures ∙ c.requires.1 l.i
+          ∙ sym (codes_five p.result (ap is_five_bit p.ensures ∙ c.requires.all_of l.i
           (omega arith)))),
     )
 
@@ -47,7 +47,7 @@ loop-j-init c = (
 )
 
 pub put_six-requires : goal.put_six-requires
-put_six-requires c = omega (arith, c.requires.0.1, c.loop-j.invariant.1.size)
+put_six-requires c = omega (arith, c.requires.in_bounds.1, c.loop-j.invariant.1.size)
 
 pub loop-j-preserved : goal.loop-j-preserved
 loop-j-preserved c = 
@@ -55,16 +55,13 @@ loop-j-preserved c =
     let l = c.loop-i in
     let m = c.loop-j in
     let ps = packets_of a.block.now in
-    let n = fives-count ps 16 m.j c.requires.1 (omega arith) in (
+    let n = fives-count ps 16 m.j c.requires.all_of (omega arith) in (
       omega arith,
       rw c.put_six.ensures
           (begun_more ps m.j a.at (a.at + 6 * m.j) (a.at + 96) a.out.now m.out _ m.invariant.1 (omega arith)
           (front-is _ _ (l.invariant.3 m.j (omega arith))) (omega arith)
-          c.requires.0.1),
+          c.requires.in_bounds.1),
     )
-
-pub shape_of-out : goal.shape_of-out
-shape_of-out c = c.loop-j.invariant.1.size
 
 pub returns : goal.returns
 returns c = 
@@ -73,5 +70,5 @@ returns c =
     let ps = packets_of a.block.now in
     let n : m.j ≡ 16 = omega arith in
     begun-whole a.at (a.at + 96) (codes_from ps 0 16) a.out.now m.out
-    (omega (arith, fives-count ps 16 16 c.requires.1 (omega arith)))
+    (omega (arith, fives-count ps 16 16 c.requires.all_of (omega arith)))
     (rw (← n) m.invariant.1)

@@ -26,13 +26,13 @@ loop-i-init c =
     (omega arith, sym (none_yet ps 0), begun-start ps 0 0 (length (unpacked ps)) c.args.out.now)
 
 pub overflow_mul-i : goal.overflow_mul-i
-overflow_mul-i c = omega (arith, c.requires.1, length-packets little c.args.bytes.now)
+overflow_mul-i c = omega (arith, c.requires.blocks_in_bounds, length-packets little c.args.bytes.now)
 
 pub slice_bounds-put_block-count : goal.slice_bounds-put_block-count
 slice_bounds-put_block-count c = omega (
   arith,
   c.byte_of-from.ensures,
-  c.requires.1,
+  c.requires.blocks_in_bounds,
   length-packets little
       c.args.bytes.now,
 )
@@ -41,7 +41,7 @@ pub slice_bounds-put_block-start : goal.slice_bounds-put_block-start
 slice_bounds-put_block-start c = omega (
   arith,
   c.byte_of-from.ensures,
-  c.requires.1,
+  c.requires.blocks_in_bounds,
   length-packets little
       c.args.bytes.now,
 )
@@ -57,26 +57,23 @@ put_block-at-requires c =
     let here : s ≡ 4 * (16 * l.i) = omega (
       arith,
       c.byte_of-from.ensures,
-      c.requires.1,
+      c.requires.blocks_in_bounds,
     ) in
-    let behind : 16 * l.i + 16 + spare a.alphabet < length ps = omega (arith, c.requires.1) in
+    let behind : 16 * l.i + 16 + spare a.alphabet < length ps = omega (arith, c.requires.blocks_in_bounds) in
     let rest = part_rest b s in
     let codes : length (codes_from (packets_of (drop s b)) 0 16) ≡ length (codes_from ps (16 * l.i) 16) = ap length (block_codes b l.i s here (omega arith)) in
-    rw rest (
-      (
+    rw rest (record { in_bounds = (
         omega (arith, length-drop s b),
         omega (
           arith,
-          c.requires.0.1,
+          c.requires.bytes_value.1,
           l.invariant.1,
           l.invariant.2.size,
           block_room
-              a.alphabet ps c.requires.0.0 l.i behind,
+              a.alphabet ps c.requires.bytes_value.0 l.i behind,
         ),
-      ),
-      λ t. block_fives b l.i s here (omega arith) (rw (eqb-true a.alphabet 3 t) at
-          c.requires.0.0) (omega arith),
-    )
+      ); all_of = λ t. block_fives b l.i s here (omega arith) (rw (eqb-true a.alphabet 3 t) at
+          c.requires.bytes_value.0) (omega arith) })
 
 pub loop-i-preserved : goal.loop-i-preserved
 loop-i-preserved c = 
@@ -89,24 +86,21 @@ loop-i-preserved c =
     let here : s ≡ 4 * (16 * l.i) = omega (
       arith,
       c.byte_of-from.ensures,
-      c.requires.1,
+      c.requires.blocks_in_bounds,
     ) in
     let behind : 16 * l.i + 16 + spare a.alphabet < length ps = omega
-    (arith, c.requires.1) in
+    (arith, c.requires.blocks_in_bounds) in
     let o = c.put_block-at in
     let e : codes_from (packets_of (take (length b - s) (drop s b))) 0 16 ≡ codes_from ps (16 * l.i) 16 = rw (part_rest b s)
     (block_codes b l.i s here (omega arith)) in
     let r : o.result ≡ length (codes_from ps 0 (16 * l.i)) + length (codes_from ps (16 * l.i) 16) = o.ensures.behind ∙ rw (e, l.invariant.1) in (
       omega arith,
-      r ∙ sym (block_count a.alphabet ps c.requires.0.0 l.i behind),
-      block_begun a.alphabet ps c.requires.0.0 l.i behind
+      r ∙ sym (block_count a.alphabet ps c.requires.bytes_value.0 l.i behind),
+      block_begun a.alphabet ps c.requires.bytes_value.0 l.i behind
           (length (unpacked ps)) a.out.now l.out _
-          (block_room a.alphabet ps c.requires.0.0
+          (block_room a.alphabet ps c.requires.bytes_value.0
           l.i behind) l.invariant.2 (rw (r, e, l.invariant.1) at o.ensures.codes),
     )
-
-pub shape_of-out : goal.shape_of-out
-shape_of-out c = c.loop-i.invariant.2.size
 
 pub returns : goal.returns
 returns c = 

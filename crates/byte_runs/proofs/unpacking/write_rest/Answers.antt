@@ -18,7 +18,7 @@ pub loop-done-init : goal.loop-done-init
 loop-done-init c = 
     let a = c.args in
     let ps = packets_of a.bytes.now in (
-      omega (arith, c.requires.0.1, length-packets little a.bytes.now),
+      omega (arith, c.requires.bytes_value.1, length-packets little a.bytes.now),
       omega (arith, none_yet ps a.from),
       begun-start ps a.from a.place (a.place + length (unpacked (drop a.from ps))) a.out.now,
     )
@@ -31,10 +31,10 @@ put_one-at-requires c =
     let ps = packets_of a.bytes.now in
     omega (
       arith,
-      c.requires.1,
+      c.requires.bytes_in_bounds,
       l.invariant.2.size,
-      behind-room a.alphabet ps c.requires.0.0 a.from a.place a.out.now
-          c.requires.1 l.done p.result l.at
+      behind-room a.alphabet ps c.requires.bytes_value.0 a.from a.place a.out.now
+          c.requires.bytes_in_bounds l.done p.result l.at
           p.ensures l.invariant.1 l.out l.invariant.2 (omega (arith, length-packets little a.bytes.now)),
     )
 
@@ -51,19 +51,16 @@ loop-done-preserved c =
           ∙ omega (
             arith,
             l.invariant.1,
-            behind-count a.alphabet ps c.requires.0.0 a.from
-                a.place a.out.now c.requires.1 l.done p.result
+            behind-count a.alphabet ps c.requires.bytes_value.0 a.from
+                a.place a.out.now c.requires.bytes_in_bounds l.done p.result
                 l.at
                 p.ensures l.invariant.1 l.out l.invariant.2,
           ),
-      rw o.ensures.codes (behind_more a.alphabet ps c.requires.0.0
-          a.from a.place a.out.now c.requires.1 l.done
+      rw o.ensures.codes (behind_more a.alphabet ps c.requires.bytes_value.0
+          a.from a.place a.out.now c.requires.bytes_in_bounds l.done
           p.result l.at
           p.ensures l.invariant.1 l.out l.invariant.2 h),
     )
-
-pub shape_of-out : goal.shape_of-out
-shape_of-out c = c.out-2-1.given ∙ c.loop-done.invariant.2.size
 
 pub returns : goal.returns
 returns c = 
@@ -76,12 +73,12 @@ returns c =
     ∙ residues_put_lem p.result l.at l.out (residues p.result) refl
     (omega (
       arith,
-      c.requires.1,
+      c.requires.bytes_in_bounds,
       l.invariant.2.size,
-      last-room a.alphabet ps c.requires.0.0 a.from a.place
-          a.out.now c.requires.1 l.done p.result l.at
+      last-room a.alphabet ps c.requires.bytes_value.0 a.from a.place
+          a.out.now c.requires.bytes_in_bounds l.done p.result l.at
           p.ensures l.invariant.1 l.out l.invariant.2 h,
     ))
-    ∙ behind-last a.alphabet ps c.requires.0.0 a.from a.place
-    a.out.now c.requires.1 l.done p.result l.at
+    ∙ behind-last a.alphabet ps c.requires.bytes_value.0 a.from a.place
+    a.out.now c.requires.bytes_in_bounds l.done p.result l.at
     p.ensures l.invariant.1 l.out l.invariant.2 h
