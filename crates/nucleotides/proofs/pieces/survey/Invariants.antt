@@ -1,0 +1,17 @@
+-- `nucleotides::pieces::survey`: block by block, the largest code and the pieces so far. Assumes nothing.
+use mathlib.Core.Path.{◌≡◌, refl, ap, ◌∙◌}
+use Prim.Native.Nat.{◌+◌, ◌-◌, ◌≤◌}
+use native.Mathlib.Omega.{arith}
+use lib.ListN.{length}
+use Rattle.laws.specs.Places.{largest_to}
+use Rattle.nucleotides.specs.Scan.{code_at, Met}
+use Rattle.nucleotides.proofs.Stretches.{met_none, met_join, met_all, pieces-count, at_most_largest, largest_so_far}
+use borrow.Author.Rules.{rules}
+use Rattle.nucleotides.proofs.pieces.survey.Given as goal
+
+abbrev pub invariant-loop-start : goal.invariant-loop-start
+invariant-loop-start l =
+    (l.start ≤ length l.codes) × (l.start ≤ l.next) × (l.top ≡ largest_to (code_at l.codes) l.start) × Met l.limit l.codes 0 l.pieces l.next
+
+abbrev pub decreases-loop-start : goal.decreases-loop-start
+decreases-loop-start l = length l.codes - l.start
