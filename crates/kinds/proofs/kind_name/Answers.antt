@@ -42,5 +42,5 @@ returns c =
     let place : ℕ = c.args.kind - 160 in
     let within : place < 20 = let h = c.if-kind-lt160.false in let l = c.if-kind-gt179.false in omega arith in
     let a = c.args in
-    let the-pair = named a.kind a.out.now _ _ _ c.if-kind-gt179.false c.if-kind-gt179.false (part_name (place) (within))
+    let the-pair = named a.kind a.out.now _ _ _ c.if-kind-lt160.false c.if-kind-gt179.false (part_name (place) (within))
     c.put_name.ensures.value c.put_name.ensures.out_after in record { value = the-pair.0; out_after = the-pair.1 }

@@ -117,7 +117,7 @@ write_sequence-requires c =
     let a = c.args in
     let cs = a.codes.now in
     let e = needed in
-    ((width_of_lem.ensures.value, count, if1.false), (omega arith, omega arith))
+    record { w_value = (width_of_lem.ensures.value, count, if1.false); codes_bound = omega arith; codes_bound_2 = omega arith }
 
 pub returns : goal.returns
 returns c = 

@@ -147,13 +147,7 @@ put_block-reached-requires c =
     let l = c.loop-m in
     let e = c.block_end-end in
     let top = c.largest_in-largest in
-    let g = going in (
-      (g.met.inside, omega (arith, e.ensures), either, l.invariant.0),
-      (
-        (places, omega (arith, room, g.size, c.write_bytes.auto)),
-        λ k x y. rw top.ensures (at_most_largest (codes) (4 * l.m) (4 * e.result) k (omega (arith, g.passed)) y),
-      ),
-    )
+    let g = going in record { from_in_bounds = (g.met.inside, omega (arith, e.ensures), either, l.invariant.0); codes_len_bound = (places, omega (arith, room, g.size, c.write_bytes.auto)); by_index = λ k x y. rw top.ensures (at_most_largest (codes) (4 * l.m) (4 * e.result) k (omega (arith, g.passed)) y) }
 
 pub overflow_add-done : goal.overflow_add-done
 overflow_add-done c = 

@@ -40,7 +40,7 @@ overflow_mul-w c =
     let positive : 0 < c.args.limit = rw c.requires.from_in_bounds.3 (pow_pos (2 * c.args.w - 4)) in
     let inside : k < length codes = omega (arith, c.requires.from_in_bounds.1) in
     let more : n < length (pieces_from c.args.limit codes c.args.from) = met_more c.args.limit codes c.args.from n k c.piece_length-length.result c.loop-k.invariant.1 positive inside
-      c.if-codes-k-lt4.left c.piece_length-length.ensures.value in
+      c.if-codes-k-lt4.false c.piece_length-length.ensures.value in
     let room : c.args.at + c.args.w * n + c.args.w ≤ length c.args.out.now = entry_room c.args.w c.args.at n _ (length c.args.out.now) c.requires.from_in_bounds.2 more c.requires.codes_len_bound.1 in
     let a = c.args in
     let l = c.loop-k in
@@ -55,7 +55,7 @@ overflow_add-at c =
     let positive : 0 < c.args.limit = rw c.requires.from_in_bounds.3 (pow_pos (2 * c.args.w - 4)) in
     let inside : k < length codes = omega (arith, c.requires.from_in_bounds.1) in
     let more : n < length (pieces_from c.args.limit codes c.args.from) = met_more c.args.limit codes c.args.from n k c.piece_length-length.result c.loop-k.invariant.1 positive inside
-      c.if-codes-k-lt4.left c.piece_length-length.ensures.value in
+      c.if-codes-k-lt4.false c.piece_length-length.ensures.value in
     let room : c.args.at + c.args.w * n + c.args.w ≤ length c.args.out.now = entry_room c.args.w c.args.at n _ (length c.args.out.now) c.requires.from_in_bounds.2 more c.requires.codes_len_bound.1 in
     let a = c.args in
     let l = c.loop-k in
@@ -70,7 +70,7 @@ put_entry-requires c =
     let positive : 0 < c.args.limit = rw c.requires.from_in_bounds.3 (pow_pos (2 * c.args.w - 4)) in
     let inside : k < length codes = omega (arith, c.requires.from_in_bounds.1) in
     let more : n < length (pieces_from c.args.limit codes c.args.from) = met_more c.args.limit codes c.args.from n k c.piece_length-length.result c.loop-k.invariant.1 positive inside
-      c.if-codes-k-lt4.left c.piece_length-length.ensures.value in
+      c.if-codes-k-lt4.false c.piece_length-length.ensures.value in
     let room : c.args.at + c.args.w * n + c.args.w ≤ length c.args.out.now = entry_room c.args.w c.args.at n _ (length c.args.out.now) c.requires.from_in_bounds.2 more c.requires.codes_len_bound.1 in
     let a = c.args in
     let l = c.loop-k in
@@ -85,7 +85,7 @@ loop-k-preserved c =
     let positive : 0 < c.args.limit = rw c.requires.from_in_bounds.3 (pow_pos (2 * c.args.w - 4)) in
     let inside : k < length codes = omega (arith, c.requires.from_in_bounds.1) in
     let more : n < length (pieces_from c.args.limit codes c.args.from) = met_more c.args.limit codes c.args.from n k c.piece_length-length.result c.loop-k.invariant.1 positive inside
-      c.if-codes-k-lt4.left c.piece_length-length.ensures.value in
+      c.if-codes-k-lt4.false c.piece_length-length.ensures.value in
     let room : c.args.at + c.args.w * n + c.args.w ≤ length c.args.out.now = entry_room c.args.w c.args.at n _ (length c.args.out.now) c.requires.from_in_bounds.2 more c.requires.codes_len_bound.1 in
     let if1 = c.if-codes-k-lt4 in
     let entry_of = c.entry_of in
@@ -112,4 +112,4 @@ pub shape_of-out : goal.shape_of-out
 shape_of-out c = c.loop-k.invariant.2
 
 pub returns : goal.returns
-returns c = (c.loop-k.invariant.1, (c.loop-k-test.false, c.loop-k.invariant.3))
+returns c = record { met = c.loop-k.invariant.1; reached = c.loop-k-test.false; out_after = c.loop-k.invariant.3 }
