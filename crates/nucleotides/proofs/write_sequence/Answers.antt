@@ -20,16 +20,7 @@ pub most_repeat-limit-requires : goal.most_repeat-limit-requires
 most_repeat-limit-requires c = rw c.requires.w_value.0 (width_is (length c.args.codes.now))
 
 pub overflow_add-entries-2 : goal.overflow_add-entries-2
-overflow_add-entries-2 c = 
-    let codes : List ℕ = c.args.codes.now in
-    let old : List ℕ = c.args.out.now in
-    let w : ℕ = c.args.w in
-    let n : ℕ = c.args.n in
-    let limit : ℕ = c.most_repeat-limit.result in
-    let going : Going codes old w limit n c.loop-m.out c.loop-m.next c.loop-m.done c.loop-m.m = c.loop-m.invariant.3 in
-    let fits : (c.loop-m.done ≤ n) × (w * c.loop-m.done ≤ w * n) = done-fits codes old w limit n c.requires.w_value.0 c.loop-m.invariant.0 c.requires.w_value.1 c.requires.codes_bound.0.1
-      c.loop-m.out c.loop-m.next c.loop-m.done c.loop-m.m going in
-    let e = c.word_size.ensures in let m = word_most c.args.n in record { fits = omega arith }
+overflow_add-entries-2 c = let e = c.word_size.ensures in let m = word_most c.args.n in record { fits = omega arith }
 
 pub loop-m-init : goal.loop-m-init
 loop-m-init c = let a = c.args in
@@ -38,32 +29,14 @@ loop-m-init c = let a = c.args in
       e,
       refl,
       ap (λ (x : ℕ). length a.codes.now / 4 + 1 + x) c.word_size.ensures,
-      going_begun a.codes.now a.out.now a.w c.most_repeat-limit.result a.n p.w_value.0 e p.w_value.1 p.codes_bound.0.1,
+      going_begun a.codes.now a.out.now a.w c.most_repeat-limit.result a.n p.w_value.0 e p.w_value.1 p.codes_bound.1,
     )
 
 pub overflow_mul-m : goal.overflow_mul-m
-overflow_mul-m c = 
-    let codes : List ℕ = c.args.codes.now in
-    let old : List ℕ = c.args.out.now in
-    let w : ℕ = c.args.w in
-    let n : ℕ = c.args.n in
-    let limit : ℕ = c.most_repeat-limit.result in
-    let going : Going codes old w limit n c.loop-m.out c.loop-m.next c.loop-m.done c.loop-m.m = c.loop-m.invariant.3 in
-    let fits : (c.loop-m.done ≤ n) × (w * c.loop-m.done ≤ w * n) = done-fits codes old w limit n c.requires.w_value.0 c.loop-m.invariant.0 c.requires.w_value.1 c.requires.codes_bound.0.1
-      c.loop-m.out c.loop-m.next c.loop-m.done c.loop-m.m going in
-    let v = c.loop-m.invariant in record { fits = omega arith }
+overflow_mul-m c = let v = c.loop-m.invariant in record { fits = omega arith }
 
 pub overflow_mul-end : goal.overflow_mul-end
-overflow_mul-end c = 
-    let codes : List ℕ = c.args.codes.now in
-    let old : List ℕ = c.args.out.now in
-    let w : ℕ = c.args.w in
-    let n : ℕ = c.args.n in
-    let limit : ℕ = c.most_repeat-limit.result in
-    let going : Going codes old w limit n c.loop-m.out c.loop-m.next c.loop-m.done c.loop-m.m = c.loop-m.invariant.3 in
-    let fits : (c.loop-m.done ≤ n) × (w * c.loop-m.done ≤ w * n) = done-fits codes old w limit n c.requires.w_value.0 c.loop-m.invariant.0 c.requires.w_value.1 c.requires.codes_bound.0.1
-      c.loop-m.out c.loop-m.next c.loop-m.done c.loop-m.m going in
-    let e = c.block_end-end.ensures in let v = c.loop-m.invariant in record { fits = omega arith }
+overflow_mul-end c = let e = c.block_end-end.ensures in let v = c.loop-m.invariant in record { fits = omega arith }
 
 pub largest_in-largest-requires : goal.largest_in-largest-requires
 largest_in-largest-requires c = let e = c.block_end-end.ensures in let v = c.loop-m.invariant in (omega arith, omega arith)
@@ -80,26 +53,16 @@ write_bytes-requires c =
     let limit : ℕ = c.most_repeat-limit.result in
     let going : Going codes old w limit n c.loop-m.out c.loop-m.next c.loop-m.done c.loop-m.m = c.loop-m.invariant.3 in
     let needed : bytes_needed codes ≡ length codes / 4 + 1 + (word_size n + w * n) = needed_is codes w n c.requires.w_value.0 c.requires.w_value.1 in
-    let a = c c in
     let l = c.loop-m in
     let e = c.block_end-end in
     let top = c.largest_in-largest in
-    let g = going in record { n_in_bounds = (omega (arith, e.ensures), omega (arith, e.ensures, g.size, needed, a.pre.1.0)); largest_bound = (
-        rw top.ensures (part_less (codes) (4 * l.m) (4 * e.result) 16 (omega (arith, e.ensures)) a.pre.1.1),
+    let g = going in record { n_in_bounds = (omega (arith, e.ensures), omega (arith, e.ensures, g.size, needed, c.requires.codes_bound)); largest_bound = (
+        rw top.ensures (part_less (codes) (4 * l.m) (4 * e.result) 16 (omega (arith, e.ensures)) c.requires.codes_bound_2),
         λ k x y. rw top.ensures (at_most_largest (codes) (4 * l.m) (4 * e.result) k x (omega (arith, e.ensures))),
       ) }
 
 pub overflow_mul-end-in-loop-m : goal.overflow_mul-end-in-loop-m
-overflow_mul-end-in-loop-m c = 
-    let codes : List ℕ = c.args.codes.now in
-    let old : List ℕ = c.args.out.now in
-    let w : ℕ = c.args.w in
-    let n : ℕ = c.args.n in
-    let limit : ℕ = c.most_repeat-limit.result in
-    let going : Going codes old w limit n c.loop-m.out c.loop-m.next c.loop-m.done c.loop-m.m = c.loop-m.invariant.3 in
-    let fits : (c.loop-m.done ≤ n) × (w * c.loop-m.done ≤ w * n) = done-fits codes old w limit n c.requires.w_value.0 c.loop-m.invariant.0 c.requires.w_value.1 c.requires.codes_bound.0.1
-      c.loop-m.out c.loop-m.next c.loop-m.done c.loop-m.m going in
-    let e = c.block_end-end.ensures in
+overflow_mul-end-in-loop-m c = let e = c.block_end-end.ensures in
     let v = c.loop-m.invariant in
     record { fits = omega arith }
 
@@ -112,9 +75,9 @@ overflow_mul-w c =
     let limit : ℕ = c.most_repeat-limit.result in
     let going : Going codes old w limit n c.loop-m.out c.loop-m.next c.loop-m.done c.loop-m.m = c.loop-m.invariant.3 in
     let needed : bytes_needed codes ≡ length codes / 4 + 1 + (word_size n + w * n) = needed_is codes w n c.requires.w_value.0 c.requires.w_value.1 in
-    let fits : (c.loop-m.done ≤ n) × (w * c.loop-m.done ≤ w * n) = done-fits codes old w limit n c.requires.w_value.0 c.loop-m.invariant.0 c.requires.w_value.1 c.requires.codes_bound.0.1
+    let fits : (c.loop-m.done ≤ n) × (w * c.loop-m.done ≤ w * n) = done-fits codes old w limit n c.requires.w_value.0 c.loop-m.invariant.0 c.requires.w_value.1 c.requires.codes_bound.1
       c.loop-m.out c.loop-m.next c.loop-m.done c.loop-m.m going in
-    record { fits = omega (arith, fits, needed, c.requires.codes_bound.0) }
+    record { fits = omega (arith, fits, needed, c.requires.codes_bound) }
 
 pub overflow_add-entries-in-loop-m : goal.overflow_add-entries-in-loop-m
 overflow_add-entries-in-loop-m c = 
@@ -125,9 +88,9 @@ overflow_add-entries-in-loop-m c =
     let limit : ℕ = c.most_repeat-limit.result in
     let going : Going codes old w limit n c.loop-m.out c.loop-m.next c.loop-m.done c.loop-m.m = c.loop-m.invariant.3 in
     let needed : bytes_needed codes ≡ length codes / 4 + 1 + (word_size n + w * n) = needed_is codes w n c.requires.w_value.0 c.requires.w_value.1 in
-    let fits : (c.loop-m.done ≤ n) × (w * c.loop-m.done ≤ w * n) = done-fits codes old w limit n c.requires.w_value.0 c.loop-m.invariant.0 c.requires.w_value.1 c.requires.codes_bound.0.1
+    let fits : (c.loop-m.done ≤ n) × (w * c.loop-m.done ≤ w * n) = done-fits codes old w limit n c.requires.w_value.0 c.loop-m.invariant.0 c.requires.w_value.1 c.requires.codes_bound.1
       c.loop-m.out c.loop-m.next c.loop-m.done c.loop-m.m going in
-    record { fits = omega (arith, fits, needed, c.requires.codes_bound.0) }
+    record { fits = omega (arith, fits, needed, c.requires.codes_bound) }
 
 pub put_block-reached-requires : goal.put_block-reached-requires
 put_block-reached-requires c = 
@@ -141,9 +104,8 @@ put_block-reached-requires c =
     let places : length codes ≤ 2 ^ (6 * w) = let h : length codes ≤ 8589934592 = omega (arith, c.requires.w_value.2) in
       let e : w ≡ width_of (length codes) = c.requires.w_value.0 in
       subst (λ (x : ℕ). length codes ≤ 2 ^ (6 * x)) (sym e) (places_fit (length codes) h) in
-    let room : length codes / 4 + 1 + word_size n + w * c.loop-m.done + w * length (pieces_from limit codes c.loop-m.next) ≤ length old = entries_fit codes old w limit n c.requires.w_value.0 c.loop-m.invariant.0 c.requires.w_value.1 c.requires.codes_bound.0.1
+    let room : length codes / 4 + 1 + word_size n + w * c.loop-m.done + w * length (pieces_from limit codes c.loop-m.next) ≤ length old = entries_fit codes old w limit n c.requires.w_value.0 c.loop-m.invariant.0 c.requires.w_value.1 c.requires.codes_bound.1
       c.loop-m.out c.loop-m.next c.loop-m.done c.loop-m.m going in
-    let a = c c in
     let l = c.loop-m in
     let e = c.block_end-end in
     let top = c.largest_in-largest in
@@ -157,13 +119,10 @@ overflow_add-done c =
     let n : ℕ = c.args.n in
     let limit : ℕ = c.most_repeat-limit.result in
     let going : Going codes old w limit n c.loop-m.out c.loop-m.next c.loop-m.done c.loop-m.m = c.loop-m.invariant.3 in
-    let fits : (c.loop-m.done ≤ n) × (w * c.loop-m.done ≤ w * n) = done-fits codes old w limit n c.requires.w_value.0 c.loop-m.invariant.0 c.requires.w_value.1 c.requires.codes_bound.0.1
-      c.loop-m.out c.loop-m.next c.loop-m.done c.loop-m.m going in
-    let a = c c in
     let l = c.loop-m in
     let r = c.put_block-reached in
     let m =
-    done-most (codes) (old) (w) (limit) (n) a.pre.0.0 c.loop-m.invariant.0 a.pre.0.1 a.pre.1.0.1
+    done-most (codes) (old) (w) (limit) (n) c.requires.w_value.0 c.loop-m.invariant.0 c.requires.w_value.1 c.requires.codes_bound.1
     l.out l.next l.done l.m (going) r.result.pieces r.result.next r.ensures.met in
     record { fits = omega arith }
 
@@ -178,7 +137,6 @@ loop-m-preserved c =
     let n : ℕ = c.args.n in
     let limit : ℕ = c.most_repeat-limit.result in
     let going : Going codes old w limit n c.loop-m.out c.loop-m.next c.loop-m.done c.loop-m.m = c.loop-m.invariant.3 in
-    let a = c c in
     let l = c.loop-m in
     let e = c.block_end-end in
     let b = c.write_bytes in
@@ -186,11 +144,11 @@ loop-m-preserved c =
       l.invariant.0,
       l.invariant.1,
       l.invariant.2,
-      going_on (codes) (old) (w) (limit) (n) a.pre.0.0 c.loop-m.invariant.0 a.pre.0.1 a.pre.1.0.1
+      going_on (codes) (old) (w) (limit) (n) c.requires.w_value.0 c.loop-m.invariant.0 c.requires.w_value.1 c.requires.codes_bound.1
           l.out l.next l.done l.m (going)
           e.result r.result.pieces r.result.next _ _ _ (omega (arith, e.ensures)) (omega (arith, e.ensures)) b.ensures
-          (ap (λ (x : ℕ). x + a.args.w * l.done) l.invariant.2) r.ensures.reached.1 (omega (arith, r.auto, b.auto, (going).size)) r.ensures.met
-          r.ensures.reached.0,
+          (ap (λ (x : ℕ). x + c.args.w * l.done) l.invariant.2) r.ensures.out_after (omega (arith, r.auto, b.auto, going.size)) r.ensures.met
+          r.ensures.reached,
     )
 
 pub bounds-out-whole : goal.bounds-out-whole
@@ -202,7 +160,7 @@ bounds-out-whole c =
     let limit : ℕ = c.most_repeat-limit.result in
     let going : Going codes old w limit n c.loop-m.out c.loop-m.next c.loop-m.done c.loop-m.m = c.loop-m.invariant.3 in
     let needed : bytes_needed codes ≡ length codes / 4 + 1 + (word_size n + w * n) = needed_is codes w n c.requires.w_value.0 c.requires.w_value.1 in
-    omega (arith, (going).size, needed, c.requires.codes_bound.0)
+    omega (arith, going.size, needed, c.requires.codes_bound)
 
 pub overflow_mul-w-2 : goal.overflow_mul-w-2
 overflow_mul-w-2 c = 
@@ -213,9 +171,9 @@ overflow_mul-w-2 c =
     let limit : ℕ = c.most_repeat-limit.result in
     let going : Going codes old w limit n c.loop-m.out c.loop-m.next c.loop-m.done c.loop-m.m = c.loop-m.invariant.3 in
     let needed : bytes_needed codes ≡ length codes / 4 + 1 + (word_size n + w * n) = needed_is codes w n c.requires.w_value.0 c.requires.w_value.1 in
-    let fits : (c.loop-m.done ≤ n) × (w * c.loop-m.done ≤ w * n) = done-fits codes old w limit n c.requires.w_value.0 c.loop-m.invariant.0 c.requires.w_value.1 c.requires.codes_bound.0.1
+    let fits : (c.loop-m.done ≤ n) × (w * c.loop-m.done ≤ w * n) = done-fits codes old w limit n c.requires.w_value.0 c.loop-m.invariant.0 c.requires.w_value.1 c.requires.codes_bound.1
       c.loop-m.out c.loop-m.next c.loop-m.done c.loop-m.m going in
-    record { fits = omega (arith, fits, needed, c.requires.codes_bound.0) }
+    record { fits = omega (arith, fits, needed, c.requires.codes_bound) }
 
 pub overflow_add-entries-3 : goal.overflow_add-entries-3
 overflow_add-entries-3 c = 
@@ -226,9 +184,9 @@ overflow_add-entries-3 c =
     let limit : ℕ = c.most_repeat-limit.result in
     let going : Going codes old w limit n c.loop-m.out c.loop-m.next c.loop-m.done c.loop-m.m = c.loop-m.invariant.3 in
     let needed : bytes_needed codes ≡ length codes / 4 + 1 + (word_size n + w * n) = needed_is codes w n c.requires.w_value.0 c.requires.w_value.1 in
-    let fits : (c.loop-m.done ≤ n) × (w * c.loop-m.done ≤ w * n) = done-fits codes old w limit n c.requires.w_value.0 c.loop-m.invariant.0 c.requires.w_value.1 c.requires.codes_bound.0.1
+    let fits : (c.loop-m.done ≤ n) × (w * c.loop-m.done ≤ w * n) = done-fits codes old w limit n c.requires.w_value.0 c.loop-m.invariant.0 c.requires.w_value.1 c.requires.codes_bound.1
       c.loop-m.out c.loop-m.next c.loop-m.done c.loop-m.m going in
-    record { fits = omega (arith, fits, needed, c.requires.codes_bound.0) }
+    record { fits = omega (arith, fits, needed, c.requires.codes_bound) }
 
 pub put_pieces-requires : goal.put_pieces-requires
 put_pieces-requires c = 
@@ -242,7 +200,7 @@ put_pieces-requires c =
     let places : length codes ≤ 2 ^ (6 * w) = let h : length codes ≤ 8589934592 = omega (arith, c.requires.w_value.2) in
       let e : w ≡ width_of (length codes) = c.requires.w_value.0 in
       subst (λ (x : ℕ). length codes ≤ 2 ^ (6 * x)) (sym e) (places_fit (length codes) h) in
-    let room : length codes / 4 + 1 + word_size n + w * c.loop-m.done + w * length (pieces_from limit codes c.loop-m.next) ≤ length old = entries_fit codes old w limit n c.requires.w_value.0 c.loop-m.invariant.0 c.requires.w_value.1 c.requires.codes_bound.0.1
+    let room : length codes / 4 + 1 + word_size n + w * c.loop-m.done + w * length (pieces_from limit codes c.loop-m.next) ≤ length old = entries_fit codes old w limit n c.requires.w_value.0 c.loop-m.invariant.0 c.requires.w_value.1 c.requires.codes_bound.1
       c.loop-m.out c.loop-m.next c.loop-m.done c.loop-m.m going in
     let g = going in record { from_in_bounds = (g.met.inside, omega arith, either, c.loop-m.invariant.0); codes_len_bound = (places, simp length-set (omega (arith, room, g.size))) }
 
@@ -256,12 +214,11 @@ put_word-requires c =
     let going : Going codes old w limit n c.loop-m.out c.loop-m.next c.loop-m.done c.loop-m.m = c.loop-m.invariant.3 in
     let either : (w ≡ 4) ⊎ (w ≡ 8) = subst (λ (x : ℕ). (x ≡ 4) ⊎ (x ≡ 8)) (sym c.requires.w_value.0) (width_is (length codes)) in
     let needed : bytes_needed codes ≡ length codes / 4 + 1 + (word_size n + w * n) = needed_is codes w n c.requires.w_value.0 c.requires.w_value.1 in
-    let a = c c in
     let l = c.loop-m in
     let e = length_word (w) (n) in
     let b = c.last_byte in
     let size : length (set l.out (length (codes) / 4) b.result) ≡ length l.out = simp length-set refl in
-    (either, omega (arith, needed, a.pre.1.0), omega (arith, needed, a.pre.1.0, c.put_pieces.auto, (going).size))
+    (either, omega (arith, needed, c.requires.codes_bound), omega (arith, needed, c.requires.codes_bound, c.put_pieces.auto, going.size))
 
 pub shape_of-out : goal.shape_of-out
 shape_of-out c = 
@@ -274,7 +231,7 @@ shape_of-out c =
     let l = c.loop-m in
     let b = c.last_byte in
     let size : length (set l.out (length (codes) / 4) b.result) ≡ length l.out = simp length-set refl in
-    omega (arith, c.put_word.auto, c.put_pieces.auto, (going).size)
+    omega (arith, c.put_word.auto, c.put_pieces.auto, going.size)
 
 pub returns : goal.returns
 returns c = 
@@ -284,13 +241,12 @@ returns c =
     let n : ℕ = c.args.n in
     let limit : ℕ = c.most_repeat-limit.result in
     let going : Going codes old w limit n c.loop-m.out c.loop-m.next c.loop-m.done c.loop-m.m = c.loop-m.invariant.3 in
-    let a = c c in
     let l = c.loop-m in
-    let all-bytes : l.m ≡ length a.args.codes.now / 4 =
+    let all-bytes : l.m ≡ length c.args.codes.now / 4 =
     omega (arith, l.invariant.1, (going).bytes, c.loop-m-test.false) in
     let r = c.put_pieces in
-    going_done (codes) (old) (w) (limit) (n) a.pre.0.0 c.loop-m.invariant.0 a.pre.0.1 a.pre.1.0.1
+    going_done (codes) (old) (w) (limit) (n) c.requires.w_value.0 c.loop-m.invariant.0 c.requires.w_value.1 c.requires.codes_bound.1
     l.out l.next l.done l.m (going)
     _ _ r.result.pieces r.result.next _ _ _ l.invariant.1
     c.last_byte.ensures all-bytes
-    (ap (λ (x : ℕ). x + a.args.w * l.done) l.invariant.2) r.ensures.reached.1 r.ensures.met r.ensures.reached.0 c.put_word.ensures
+    (ap (λ (x : ℕ). x + c.args.w * l.done) l.invariant.2) r.ensures.out_after r.ensures.met r.ensures.reached c.put_word.ensures

@@ -33,15 +33,15 @@ returns-in-Refused c =
     let after-fetch : take p.filled p.output ++ (c.decode.new.out ++ drop (length p.output - p.filled) (left p))
       ≡ item_output index sequence number p = lent_output index sequence number p c.loop-done.invariant.0 c.decode.new.out c.decode.ensures.out_after in
     let stopped-at : (r : Refusal) → (e : c.decode.result ≡ Refused r) → fetch_all index sequence numbers (begun c.args.out.now c.args.ends.now)
-      ≡ stopped r p = λ (r : Refusal). λ (e : c.decode.result ≡ Refused r). c.loop-done.invariant.4 ∙ list_stops index sequence numbers p.done c.loop-done-test.taken p r (answered ∙ e) in
+      ≡ stopped r p = λ (r : Refusal). λ (e : c.decode.result ≡ Refused r). c.loop-done.invariant.4 ∙ list_stops index sequence numbers p.done c.loop-done-test.true p r (answered ∙ e) in
     let r = c.in-Refused.refusal in
     let e = c.in-Refused.is in
     let x = same_parts _ _ (sym (stopped-at r e)) in
-    (x.0, (after-fetch ∙ output_kept (index) (sequence) (number) (p) r (answered ∙ e) ∙ x.1.0, x.1.1))
+    record { value = x.0; out_after = after-fetch ∙ output_kept (index) (sequence) (number) (p) r (answered ∙ e) ∙ x.1.0; ends_after = x.1.1 }
 
 pub overflow_add-filled : goal.overflow_add-filled
 overflow_add-filled c = let f = item-fits c c.in-Decoded.l c.in-Decoded.is in
-    let same = c.loop-done.invariant.1 in
+    let same = (c).loop.invariant.1 in
     omega arith
 
 pub loop-done-preserved : goal.loop-done-preserved
@@ -60,8 +60,8 @@ loop-done-preserved c =
     let size = ap length (after-fetch) ∙ output-size (index) (sequence) (number) q in
     let ends = set q.ends q.done (q.filled + l) in (
       omega arith,
-      size ∙ c.loop-done.invariant.1,
-      length-set q.ends q.done (q.filled + l) ∙ c.loop-done.invariant.2,
+      size ∙ (c).loop.invariant.1,
+      length-set q.ends q.done (q.filled + l) ∙ (c).loop.invariant.2,
       omega arith,
       next c l e
           ∙ ap (λ (o : List ℕ). fetch_all (index) (sequence) (drop (q.done + 1) (numbers)) (at o ends (q.filled + l) (q.done + 1)))

@@ -45,4 +45,4 @@ returns c =
     same_parts _ _
     (page_items (index) (sequence) (numbers) (output) (ends) c.if-index-gt-MOST_BYTES.false c.if-sequence-gt-MOST_BYTES.false c.if-ends-numbers.false) in
     let told = c.fetch_all.ensures in
-    (told.0 ∙ x.0, (told.1.0 ∙ x.1.0, told.1.1 ∙ x.1.1))
+    record { answer = told.0 ∙ x.0; output = told.1.0 ∙ x.1.0; ends = told.1.1 ∙ x.1.1 }
