@@ -49,7 +49,7 @@ returns-then-not-opens_at c =
       may = sym c.may_begin.ensures ∙ c.if-not-may_begin.false;
     } in
     start_shut (begins) c.if-b-eq2.false c.if-b-eq26.false
-    (sym c.Opens-at.ensures ∙ c.if-not-opens_at.true)
+    (sym c.opens_at.ensures ∙ c.if-not-opens_at.true)
 
 pub returns-then-b-eq48 : goal.returns-then-b-eq48
 returns-then-b-eq48 c = 
@@ -63,7 +63,7 @@ returns-then-b-eq48 c =
       begins = begins;
       no_integer = c.if-b-eq2.false;
       no_text = c.if-b-eq26.false;
-      open_behind = sym c.Opens-at.ensures ∙ c.if-not-opens_at.false;
+      open_behind = sym c.opens_at.ensures ∙ c.if-not-opens_at.false;
     } in
     start-list (opened) c.if-b-eq48.true c.form_inside-i.ensures
 
@@ -79,7 +79,7 @@ returns-then-in_range c =
       begins = begins;
       no_integer = c.if-b-eq2.false;
       no_text = c.if-b-eq26.false;
-      open_behind = sym c.Opens-at.ensures ∙ c.if-not-opens_at.false;
+      open_behind = sym c.opens_at.ensures ∙ c.if-not-opens_at.false;
     } in
     start-choice (opened) c.if-b-eq48.false
     (sym c.in_range.ensures ∙ c.if-in_range.true) c.form_inside-i-then-in_range.ensures
@@ -96,6 +96,6 @@ returns c =
       begins = begins;
       no_integer = c.if-b-eq2.false;
       no_text = c.if-b-eq26.false;
-      open_behind = sym c.Opens-at.ensures ∙ c.if-not-opens_at.false;
+      open_behind = sym c.opens_at.ensures ∙ c.if-not-opens_at.false;
     } in
     start-other (opened) c.if-b-eq48.false (sym c.in_range.ensures ∙ c.if-in_range.false)

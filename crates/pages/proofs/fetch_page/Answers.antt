@@ -13,7 +13,7 @@ returns-then-index-gt-MOST_BYTES c =
     let numbers : List ℕ = c.args.numbers.now in
     let output : List ℕ = c.args.out.now in
     let ends : List ℕ = c.args.ends.now in
-    let the-pair = same_parts _ _ (index_large (index) (sequence) (numbers) (output) (ends) c.if-index-gt-MOST_BYTES.true) in record { answer = the-pair.0; output = the-pair.1; ends = the-pair.2 }
+    let the-pair = same_parts _ _ (index_large (index) (sequence) (numbers) (output) (ends) c.if-index-gt-MOST_BYTES.true) in record { answer = the-pair.0; output = the-pair.1.0; ends = the-pair.1.1 }
 
 pub returns-then-sequence-gt-MOST_BYTES : goal.returns-then-sequence-gt-MOST_BYTES
 returns-then-sequence-gt-MOST_BYTES c = 
@@ -22,7 +22,7 @@ returns-then-sequence-gt-MOST_BYTES c =
     let numbers : List ℕ = c.args.numbers.now in
     let output : List ℕ = c.args.out.now in
     let ends : List ℕ = c.args.ends.now in
-    let the-pair = same_parts _ _ (sequence_large (index) (sequence) (numbers) (output) (ends) c.if-index-gt-MOST_BYTES.false c.if-sequence-gt-MOST_BYTES.true) in record { answer = the-pair.0; output = the-pair.1; ends = the-pair.2 }
+    let the-pair = same_parts _ _ (sequence_large (index) (sequence) (numbers) (output) (ends) c.if-index-gt-MOST_BYTES.false c.if-sequence-gt-MOST_BYTES.true) in record { answer = the-pair.0; output = the-pair.1.0; ends = the-pair.1.1 }
 
 pub returns-then-ends-numbers : goal.returns-then-ends-numbers
 returns-then-ends-numbers c = 
@@ -32,7 +32,7 @@ returns-then-ends-numbers c =
     let output : List ℕ = c.args.out.now in
     let ends : List ℕ = c.args.ends.now in
     let the-pair = same_parts _ _
-    (ends-short (index) (sequence) (numbers) (output) (ends) c.if-index-gt-MOST_BYTES.false c.if-sequence-gt-MOST_BYTES.false c.if-ends-numbers.true) in record { answer = the-pair.0; output = the-pair.1; ends = the-pair.2 }
+    (ends-short (index) (sequence) (numbers) (output) (ends) c.if-index-gt-MOST_BYTES.false c.if-sequence-gt-MOST_BYTES.false c.if-ends-numbers.true) in record { answer = the-pair.0; output = the-pair.1.0; ends = the-pair.1.1 }
 
 pub returns : goal.returns
 returns c = 
@@ -45,4 +45,4 @@ returns c =
     same_parts _ _
     (page_items (index) (sequence) (numbers) (output) (ends) c.if-index-gt-MOST_BYTES.false c.if-sequence-gt-MOST_BYTES.false c.if-ends-numbers.false) in
     let told = c.fetch_all.ensures in
-    record { answer = told.0 ∙ x.0; output = told.1.0 ∙ x.1.0; ends = told.1.1 ∙ x.1.1 }
+    record { answer = told.value ∙ x.0; output = told.out_after ∙ x.1.0; ends = told.ends_after ∙ x.1.1 }
