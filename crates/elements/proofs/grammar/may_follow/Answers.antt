@@ -5,7 +5,7 @@ use borrow.Author.Rules.{rules}
 use Rattle.elements.proofs.grammar.may_follow.Goals as goal
 
 pub returns-in_default : goal.returns-in_default
-returns-in_default c = let a = c.args in (free a.form c.in_default.keys2).0 a.low a.b
+returns-in_default c = let a = c.args in (free a.form c.in_default.not-Record).0 a.low a.b
 
 pub returns-then-b-low : goal.returns-then-b-low
 returns-then-b-low c = rw (c.in-Record.is, lt-leb _ _ c.if-b-low.true)
