@@ -1,0 +1,19 @@
+-- `console::results::write_results`: the values passed so far stand at the range's start. Assumes nothing.
+use mathlib.Core.Path.{◌≡◌, refl, ap, ◌∙◌}
+use Prim.Native.Nat.{◌≤◌, ◌-◌}
+use native.Mathlib.Omega.{arith}
+use lib.ListN.{length, take}
+use Rattle.laws.specs.Writing.{written_at}
+use Rattle.fields.specs.Number.{little}
+use Rattle.fields.proofs.Laws.{length_put}
+use Rattle.console.specs.Results.{result_bytes}
+use Rattle.console.proofs.Values.{results_next, results_all}
+use borrow.Author.Rules.{rules}
+use Rattle.console.proofs.results.write_results.Given as goal
+
+abbrev pub invariant-loop-k : goal.invariant-loop-k
+invariant-loop-k l = (l.k ≤ length l.values) × (length l.results ≡ length l.initial.results) ×
+    (l.results ≡ written_at 0 (result_bytes (take l.k l.values)) l.initial.results)
+
+abbrev pub decreases-loop-k : goal.decreases-loop-k
+decreases-loop-k l = length l.values - l.k
