@@ -17,9 +17,9 @@ returns-then-header-end c = record-past _ _ _ c.if-header-gt-MOST_BYTES.false c.
 pub slice_bounds-check_element-end : goal.slice_bounds-check_element-end
 slice_bounds-check_element-end c = 
     let a = c.args in
-    sym (length-take-le a.end a.header.now c.if-end-start.false)
+    sym (length-take-le a.end a.header.now c.if-header-end.false)
 
 pub returns : goal.returns
 returns c = 
-    record_element _ _ _ c.if-header-gt-MOST_BYTES.false c.if-header-gt-MOST_BYTES.false _ c.if-end-start.false
+    record_element _ _ _ c.if-header-gt-MOST_BYTES.false c.if-end-start.false _ c.if-header-end.false
     c.check_element.ensures
