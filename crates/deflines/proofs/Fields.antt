@@ -7,14 +7,11 @@ use native.Mathlib.Omega.{arith}
 use borrow.Author.Tests.{eq-eqb, ne_eqb}
 use lib.ListN.{length, get_or}
 use lib.Dec.{eqb}
-use types.Run.{OneOf}
-use denote.Enum.Declared.{tag_of}
 use Rattle.laws.proofs.Choices.{cond_elim}
 use Rattle.elements.specs.declared.Span.{Span}
 use Rattle.elements.specs.declared.SpanAnswer.{SpanAnswer}
 use Rattle.elements.specs.declared.SpanAnswer.TheVariants as S
 use Rattle.elements.specs.Parts.{text_at}
-use Rattle.deflines.specs.contracts.Field as K
 use Rattle.deflines.specs.declared.Field.{Field}
 use Rattle.deflines.specs.declared.Field.TheVariants as L
 use Rattle.deflines.specs.declared.PlaceSearch.{PlaceSearch}
@@ -43,20 +40,20 @@ module _ (s : List ℕ) (p : ℕ) (x : Field) (e : x ≡ field_at s p) where
   pub title_held : (t : Span) → x ≡ L.Title t → field_titles (field_at s p) ≡ t ∷ []
   title_held t q = ap field_titles (sym e ∙ q)
 
-  pub no_title : OneOf (1 ∷ 2 ∷ []) (tag_of K.the_type x) → field_titles (field_at s p) ≡ []
+  pub no_title : ((t : Span) → x ≡ L.Title t → ⊥) → field_titles (field_at s p) ≡ []
   no_title o = ap field_titles (sym e) ∙ none x o
     where
-      none : (x : Field) → OneOf (1 ∷ 2 ∷ []) (tag_of K.the_type x) → field_titles x ≡ []
-      none (L.Title t) o = absurd (⊎_elim (λ e. omega arith) (λ e. omega arith) o)
+      none : (x : Field) → ((t : Span) → x ≡ L.Title t → ⊥) → field_titles x ≡ []
+      none (L.Title t) o = absurd (o t refl)
       none (L.Identifiers p) o = refl
       none L.Other o = refl
 
-  pub no_identifiers : OneOf (0 ∷ 2 ∷ []) (tag_of K.the_type x) → field_identifiers s (field_at s p) ≡ []
+  pub no_identifiers : ((p : ℕ) → x ≡ L.Identifiers p → ⊥) → field_identifiers s (field_at s p) ≡ []
   no_identifiers o = ap (field_identifiers s) (sym e) ∙ none x o
     where
-      none : (x : Field) → OneOf (0 ∷ 2 ∷ []) (tag_of K.the_type x) → field_identifiers s x ≡ []
+      none : (x : Field) → ((p : ℕ) → x ≡ L.Identifiers p → ⊥) → field_identifiers s x ≡ []
       none (L.Title t) o = refl
-      none (L.Identifiers p) o = absurd (⊎_elim (λ e. omega arith) (λ e. omega arith) o)
+      none (L.Identifiers p) o = absurd (o p refl)
       none L.Other o = refl
 
   module _ (list : ℕ) (q : x ≡ L.Identifiers list) where

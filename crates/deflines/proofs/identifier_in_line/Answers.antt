@@ -30,7 +30,7 @@ loop-end-smaller-in_default-field c =
 pub loop-end-preserved-in_default-field : goal.loop-end-preserved-in_default-field
 loop-end-preserved-in_default-field c = 
     let turn : Turn c.loop-end.invariant c.in-Element.end = record { next = sym c.next_element.ensures ∙ c.in-Element.is } in
-    turn_past (turn) (no_identifiers _ _ _ c.field_at-field.ensures c.in_default-field.keys2)
+    turn_past (turn) (no_identifiers _ _ _ c.field_at-field.ensures c.in_default-field.not-Identifiers)
 
 pub element_in_list-found-requires : goal.element_in_list-found-requires
 element_in_list-found-requires c = 

@@ -53,7 +53,7 @@ returns-in-174 c = rw (← c.byte-tag.ensures, c.in-174.is, c.structure_at.ensur
 pub returns-in_default : goal.returns-in_default
 unfolding identifier_at
 returns-in_default c = 
-    let n = c.in_default.rest in
+    let n = c.in_default.in_default-own.rest in
     rw (
       ← c.byte-tag.ensures,
       ne_eqb _ _ n.0.0.0.0.0.0.0.1,
