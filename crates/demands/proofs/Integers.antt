@@ -75,9 +75,9 @@ every-number z low high =
 
 pub cases_right :
     (integer_at (0x02 ∷ 0x02 ∷ 0x00 ∷ 0x05 ∷ []) 0 ≡ Refused BadHeader)
-    × (integer_at (0x02 ∷ 0x02 ∷ 0x_ff ∷ 0x80 ∷ []) 0 ≡ Refused BadHeader)
+    × (integer_at (0x02 ∷ 0x02 ∷ 0xFF ∷ 0x80 ∷ []) 0 ≡ Refused BadHeader)
     × (integer_at (0x02 ∷ 0x02 ∷ 0x00 ∷ 0x80 ∷ []) 0 ≡ Integer (pos 128))
     × (integer_at (0x02 ∷ 0x01 ∷ 0x00 ∷ []) 0 ≡ Integer (pos 0))
-    × (integer_at (0x02 ∷ 0x02 ∷ 0x_ff ∷ 0x7_f ∷ []) 0 ≡ Integer (negsuc 128))
+    × (integer_at (0x02 ∷ 0x02 ∷ 0xFF ∷ 0x7F ∷ []) 0 ≡ Integer (negsuc 128))
 unfolding integer_at integer_part integer_allowed value
 cases_right = (refl, refl, refl, refl, refl)

@@ -55,9 +55,9 @@ run_shortest alphabet codes v =
     }
 
 -- Fifteen A's in three 5-bit packets are a run of them too, and a longer one.
-pub longer_run : RunOf 1 (replicate 15 0) (0x40000000 ∷ 0x40000000 ∷ 0x_c0007_fff ∷ [])
+pub longer_run : RunOf 1 (replicate 15 0) (0x40000000 ∷ 0x40000000 ∷ 0xC0007FFF ∷ [])
 unfolding well_formed formed inner final digits all_below valid_tailed only_fill residues before_fill unpacked
-longer_run = record { well_formed = formed_rules 1 (0x40000000 ∷ 0x40000000 ∷ 0x_c0007_fff ∷ []) refl; unpacks = refl }
+longer_run = record { well_formed = formed_rules 1 (0x40000000 ∷ 0x40000000 ∷ 0xC0007FFF ∷ []) refl; unpacks = refl }
 
 -- Twenty-one A's as six and fifteen, where the rule has fifteen and six: another run, as long as the rule's.
 pub run_as_long : RunOf 1 (replicate 21 0) (0x40000000 ∷ 0x80000000 ∷ [])

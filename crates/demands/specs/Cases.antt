@@ -36,26 +36,26 @@ AllRight (c ∷ cases) = Right c × AllRight cases
 abbrev pub table : List Case
 table =
     -- DNA ACGT is C0110FFF
-    packs 2 (0 ∷ 1 ∷ 2 ∷ 3 ∷ []) (0x_c0110_fff ∷ [])
+    packs 2 (0 ∷ 1 ∷ 2 ∷ 3 ∷ []) (0xC0110FFF ∷ [])
     -- no residues, FFFFFFFF
-    ∷ packs 2 [] (0x_ffffffff ∷ [])
+    ∷ packs 2 [] (0xFFFFFFFF ∷ [])
     -- 15 A's, 80000000; 15 T's, BFFFFFFF
     ∷ packs 2 (replicate 15 0) (0x80000000 ∷ [])
-    ∷ packs 2 (replicate 15 3) (0x_bfffffff ∷ [])
+    ∷ packs 2 (replicate 15 3) (0xBFFFFFFF ∷ [])
     -- 16 A's, 00000000 C1FFFFFF
-    ∷ packs 2 (replicate 16 0) (0x00000000 ∷ 0x_c1_ffffff ∷ [])
+    ∷ packs 2 (replicate 16 0) (0x00000000 ∷ 0xC1FFFFFF ∷ [])
     -- amino MK, D48FFFFF
-    ∷ packs 3 (10 ∷ 8 ∷ []) (0x_d48_fffff ∷ [])
+    ∷ packs 3 (10 ∷ 8 ∷ []) (0xD48FFFFF ∷ [])
     -- seven amino A's, 40000000 C1FFFFFF
-    ∷ packs 3 (replicate 7 0) (0x40000000 ∷ 0x_c1_ffffff ∷ [])
+    ∷ packs 3 (replicate 7 0) (0x40000000 ∷ 0xC1FFFFFF ∷ [])
     -- two-bit 1B is ACG, 1B 00 is ACGT, 00 is empty
-    ∷ reads (0x1_b ∷ []) (0 ∷ 1 ∷ 2 ∷ [])
-    ∷ reads (0x1_b ∷ 0x00 ∷ []) (0 ∷ 1 ∷ 2 ∷ 3 ∷ [])
+    ∷ reads (0x1B ∷ []) (0 ∷ 1 ∷ 2 ∷ [])
+    ∷ reads (0x1B ∷ 0x00 ∷ []) (0 ∷ 1 ∷ 2 ∷ 3 ∷ [])
     ∷ reads (0x00 ∷ []) []
     -- 00000001 F0000001 over ACGT gives ANGT; 80000002 F0000000 00000001 the same
-    ∷ corrects (0x00 ∷ 0x00 ∷ 0x00 ∷ 0x01 ∷ 0x_f0 ∷ 0x00 ∷ 0x00 ∷ 0x01 ∷ []) (0 ∷ 1 ∷ 2 ∷ 3 ∷ []) (0 ∷ 15 ∷ 2 ∷ 3 ∷ [])
-    ∷ corrects (0x80 ∷ 0x00 ∷ 0x00 ∷ 0x02 ∷ 0x_f0 ∷ 0x00 ∷ 0x00 ∷ 0x00 ∷ 0x00 ∷ 0x00 ∷ 0x00 ∷ 0x01 ∷ []) (0 ∷ 1 ∷ 2 ∷ 3 ∷ []) (0 ∷ 15 ∷ 2 ∷ 3 ∷ [])
+    ∷ corrects (0x00 ∷ 0x00 ∷ 0x00 ∷ 0x01 ∷ 0xF0 ∷ 0x00 ∷ 0x00 ∷ 0x01 ∷ []) (0 ∷ 1 ∷ 2 ∷ 3 ∷ []) (0 ∷ 15 ∷ 2 ∷ 3 ∷ [])
+    ∷ corrects (0x80 ∷ 0x00 ∷ 0x00 ∷ 0x02 ∷ 0xF0 ∷ 0x00 ∷ 0x00 ∷ 0x00 ∷ 0x00 ∷ 0x00 ∷ 0x00 ∷ 0x01 ∷ []) (0 ∷ 1 ∷ 2 ∷ 3 ∷ []) (0 ∷ 15 ∷ 2 ∷ 3 ∷ [])
     -- 02 01 FF is -1; 02 02 00 80 is 128
-    ∷ counts (0x02 ∷ 0x01 ∷ 0x_ff ∷ []) (negsuc 0)
+    ∷ counts (0x02 ∷ 0x01 ∷ 0xFF ∷ []) (negsuc 0)
     ∷ counts (0x02 ∷ 0x02 ∷ 0x00 ∷ 0x80 ∷ []) (pos 128)
     ∷ []

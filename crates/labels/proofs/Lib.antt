@@ -1,4 +1,3 @@
 pub mod Steps
 pub mod Labels
 pub mod Written
-pub mod ByHand
