@@ -82,6 +82,7 @@ module _ {A : Type 0} (refused : A) where
   three_within most l a b c passed (inl h) = rw (not_within most a l h)
   three_within most l a b c passed (inr (inl h)) = rw (not_within most b l h, always)
   three_within most l a b c passed (inr (inr (inl h))) = rw (not_within most c l h, always, always)
+  three_within most l a b c passed (inr (inr (inr h))) = absurd h
 
   three : (a b c : List ℕ) (passed : A) → SomeLarge (a ∷ b ∷ c ∷ [])
       → cond (leb (length a) 2147483647) (cond (leb (length b) 2147483647) (cond (leb (length c) 2147483647) passed refused) refused) refused ≡ refused
@@ -91,11 +92,13 @@ module _ {A : Type 0} (refused : A) where
       (cond (leb (length b) 2147483647) passed refused) refused ≡ refused
   two a b passed (inl h) = rw (not_fit a h)
   two a b passed (inr (inl h)) = rw (not_fit b h, always)
+  two a b passed (inr (inr h)) = absurd h
 
 -- one of two files, told in the other order
 exchanged : (a b : List ℕ) → SomeLarge (a ∷ b ∷ []) → SomeLarge (b ∷ a ∷ [])
 exchanged a b (inl h) = inr (inl h)
 exchanged a b (inr (inl h)) = inl h
+exchanged a b (inr (inr h)) = absurd h
 
 pub read_index_large : (index : List ℕ) → LargeBytes index → index_number (index_answer index) ≡ 22
 read_index_large index h = rw (not_fit index h)
@@ -171,3 +174,4 @@ pub label_large : (index header : List ℕ) (number : ℕ) → SomeLarge (index 
 unfolding label_of
 label_large index header number (inl h) = rw (not_fit index h, always)
 label_large index header number (inr (inl h)) = rw (not_fit header h)
+label_large index header number (inr (inr h)) = absurd h

@@ -68,6 +68,7 @@ module _ (index sequence numbers output ends : List ℕ) where
   pub page_large_kept : SomeLarge (index ∷ sequence ∷ []) → Gives (Stopped TooLarge 0) output ends
   page_large_kept (inl h) = Exact.holds_page index sequence numbers output ends (Stopped TooLarge 0) output ends (large (inl h) refl refl refl)
   page_large_kept (inr (inl h)) = Exact.holds_page index sequence numbers output ends (Stopped TooLarge 0) output ends (large (inr h) refl refl refl)
+  page_large_kept (inr (inr h)) = absurd h
 
   pub page_short_kept : length index ≤ 2147483647 → length sequence ≤ 2147483647 → length ends < length numbers → Gives (Stopped NoRoom 0) output ends
   page_short_kept i s h = Exact.holds_page index sequence numbers output ends (Stopped NoRoom 0) output ends (short i s h refl refl refl)
