@@ -31,5 +31,8 @@ returns-in-Passed c = let a = c.args in
     let room = length a.bytes.now / 4 in
     let check = c.check_pack in
     let m = check_passed a.alphabet cs room a.place.0 check.result check.ensures c.in-Passed.is in
-    let e = pack_done a.alphabet cs room a.place.0 m in record { answer = ap (λ (n : ℕ). Packed n (length cs)) c.write_run-count.ensures.count ∙ sym e; bytes = c.write_run-count.ensures.bytes ∙ sym
-          (bytes_written a.alphabet cs a.bytes.now a.place.0 (length (run a.alphabet cs)) (length cs) e) }
+    let e = pack_done a.alphabet cs room a.place.0 m in record {
+      answer = ap (λ (n : ℕ). Packed n (length cs)) c.write_run-count.ensures.count ∙ sym e;
+      bytes = c.write_run-count.ensures.bytes ∙ sym
+          (bytes_written a.alphabet cs a.bytes.now a.place.0 (length (run a.alphabet cs)) (length cs) e);
+    }

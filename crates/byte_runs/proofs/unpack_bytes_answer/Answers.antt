@@ -29,19 +29,19 @@ pub returns-then-bytes-ne0 : goal.returns-then-bytes-ne0
 returns-then-bytes-ne0 c = sym (unpack_bytes_short _ _ _ c.if-bytes-gt-MOST_BYTES.false c.if-bytes-ne0.true)
 
 pub returns-then-not-is_alphabet : goal.returns-then-not-is_alphabet
-returns-then-not-is_alphabet c = 
+returns-then-not-is_alphabet c =
     let bytes : List ℕ = c.args.bytes.now in
     let packets : List ℕ = packets_of (bytes) in
-    let whole : 
+    let whole :
     unpack_bytes_answer c.args.alphabet (bytes) c.args.room ≡ RunAnswer c.args.alphabet (packets) c.args.room = unpack_bytes_as _ _ _ c.if-bytes-gt-MOST_BYTES.false c.if-bytes-ne0.false in
     sym (whole ∙ run_wrong c.args.alphabet _ _
     (sym c.is_alphabet.ensures ∙ c.if-not-is_alphabet.true))
 
 pub returns-in_default : goal.returns-in_default
-returns-in_default c = 
+returns-in_default c =
     let bytes : List ℕ = c.args.bytes.now in
     let packets : List ℕ = packets_of (bytes) in
-    let whole : 
+    let whole :
     unpack_bytes_answer c.args.alphabet (bytes) c.args.room ≡ RunAnswer c.args.alphabet (packets) c.args.room = unpack_bytes_as _ _ _ c.if-bytes-gt-MOST_BYTES.false c.if-bytes-ne0.false in
     let known : is_alphabet c.args.alphabet ≡ true = sym c.is_alphabet.ensures ∙ c.if-not-is_alphabet.false in
     let read : let s = c in c.read_run.result ≡ run_length c.args.alphabet (packets) = c.read_run.ensures ∙ read_fits little _ _ c.if-bytes-gt-MOST_BYTES.false in
@@ -50,14 +50,14 @@ returns-in_default c =
     (read-not _ _ _ (read) c.in_default.is))
 
 pub returns-then-room-total : goal.returns-then-room-total
-returns-then-room-total c = 
+returns-then-room-total c =
     let bytes : List ℕ = c.args.bytes.now in
     let packets : List ℕ = packets_of (bytes) in
-    let whole : 
+    let whole :
     unpack_bytes_answer c.args.alphabet (bytes) c.args.room ≡ RunAnswer c.args.alphabet (packets) c.args.room = unpack_bytes_as _ _ _ c.if-bytes-gt-MOST_BYTES.false c.if-bytes-ne0.false in
     let known : is_alphabet c.args.alphabet ≡ true = sym c.is_alphabet.ensures ∙ c.if-not-is_alphabet.false in
     let read : let s = c in c.read_run.result ≡ run_length c.args.alphabet (packets) = c.read_run.ensures ∙ read_fits little _ _ c.if-bytes-gt-MOST_BYTES.false in
-    let formed : 
+    let formed :
     (well_formed c.args.alphabet (packets) ≡ true) × (c.in-Residues.total ≡ length (unpacked (packets))) = read-formed _ _ _ (read) _ c.in-Residues.is in
     let f = formed in
     let n = f.1 in
@@ -65,14 +65,14 @@ returns-then-room-total c =
     f.0 (omega arith))
 
 pub returns : goal.returns
-returns c = 
+returns c =
     let bytes : List ℕ = c.args.bytes.now in
     let packets : List ℕ = packets_of (bytes) in
-    let whole : 
+    let whole :
     unpack_bytes_answer c.args.alphabet (bytes) c.args.room ≡ RunAnswer c.args.alphabet (packets) c.args.room = unpack_bytes_as _ _ _ c.if-bytes-gt-MOST_BYTES.false c.if-bytes-ne0.false in
     let known : is_alphabet c.args.alphabet ≡ true = sym c.is_alphabet.ensures ∙ c.if-not-is_alphabet.false in
     let read : let s = c in c.read_run.result ≡ run_length c.args.alphabet (packets) = c.read_run.ensures ∙ read_fits little _ _ c.if-bytes-gt-MOST_BYTES.false in
-    let formed : 
+    let formed :
     (well_formed c.args.alphabet (packets) ≡ true) × (c.in-Residues.total ≡ length (unpacked (packets))) = read-formed _ _ _ (read) _ c.in-Residues.is in
     let f = formed in
     let n = f.1 in

@@ -6,19 +6,19 @@ use borrow.Author.Rules.{rules}
 use Rattle.console.proofs.gull_check_volume.Goals as goal
 
 pub returns-then-results-lt-CHECK_VOLUME_RESULTS : goal.returns-then-results-lt-CHECK_VOLUME_RESULTS
-returns-then-results-lt-CHECK_VOLUME_RESULTS c = 
+returns-then-results-lt-CHECK_VOLUME_RESULTS c =
     let a = c.args in
     let the-pair = volume_short a.index.now a.sequence.now a.header.now a.results.now _ _ c.number-then-results-lt-CHECK_VOLUME_RESULTS.ensures (lt-leb 64 _ c.if-results-lt-CHECK_VOLUME_RESULTS.true)
     (sym c.check_volume.ensures ∙ c.in-Passed.is) in record { number = the-pair.0; results = the-pair.1 }
 
 pub returns-in-Refused : goal.returns-in-Refused
-returns-in-Refused c = 
+returns-in-Refused c =
     let a = c.args in
     let the-pair = volume_refused a.index.now a.sequence.now a.header.now a.results.now _ _ c.number.ensures
     (sym c.check_volume.ensures ∙ c.in-Refused.is) in record { number = the-pair.0; results = the-pair.1 }
 
 pub returns-else-results-lt-CHECK_VOLUME_RESULTS : goal.returns-else-results-lt-CHECK_VOLUME_RESULTS
-returns-else-results-lt-CHECK_VOLUME_RESULTS c = 
+returns-else-results-lt-CHECK_VOLUME_RESULTS c =
     let a = c.args in
     let the-pair = volume_passed a.index.now a.sequence.now a.header.now a.results.now _ _
     (le-leb 64 _ c.if-results-lt-CHECK_VOLUME_RESULTS.false)

@@ -9,7 +9,7 @@ use borrow.Author.Rules.{rules}
 use Rattle.console.proofs.gull_pack.Goals as goal
 
 pub returns-in_default : goal.returns-in_default
-returns-in_default c = 
+returns-in_default c =
     let a = c.args in
     let e = sym c.pack_answer.ensures ∙ c.in_default.is in
     let the-pair = pack_all_refused a.alphabet a.codes.now a.buffer.now a.place a.results.now NoRoom _ a.buffer.now c.number.ensures
@@ -17,14 +17,14 @@ returns-in_default c =
     (lt-leb 16 _ c.if-results-lt-PACK_RESULTS.true) _ _ e) refl in record { number = the-pair.0; buffer = the-pair.1.0; results = the-pair.1.1 }
 
 pub returns-then-results-lt-PACK_RESULTS : goal.returns-then-results-lt-PACK_RESULTS
-returns-then-results-lt-PACK_RESULTS c = 
+returns-then-results-lt-PACK_RESULTS c =
     let a = c.args in
     let e = sym c.pack_answer.ensures ∙ c.in-Refused.is in
     let the-pair = pack_all_refused a.alphabet a.codes.now a.buffer.now a.place a.results.now _ _ a.buffer.now c.number-then-results-lt-PACK_RESULTS.ensures
     (pack_refused a.alphabet a.codes.now a.buffer.now a.place (length a.results.now) _ e) refl in record { number = the-pair.0; buffer = the-pair.1.0; results = the-pair.1.1 }
 
 pub returns-in-Refused-pack_bytes : goal.returns-in-Refused-pack_bytes
-returns-in-Refused-pack_bytes c = 
+returns-in-Refused-pack_bytes c =
     let a = c.args in
     let e = sym c.pack_bytes.ensures.answer ∙ c.in-Refused-pack_bytes.is in
     let the-pair = pack_all_refused a.alphabet a.codes.now a.buffer.now a.place a.results.now _ _ _ c.number-in-Refused-pack_bytes.ensures
@@ -33,7 +33,7 @@ returns-in-Refused-pack_bytes c =
     a.results.now _ e) in record { number = the-pair.0; buffer = the-pair.1.0; results = the-pair.1.1 }
 
 pub returns-in-Packed : goal.returns-in-Packed
-returns-in-Packed c = 
+returns-in-Packed c =
     let a = c.args in
     let e = sym c.pack_bytes.ensures.answer ∙
     c.in-Packed.is in

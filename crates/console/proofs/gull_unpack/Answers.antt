@@ -9,7 +9,7 @@ use borrow.Author.Rules.{rules}
 use Rattle.console.proofs.gull_unpack.Goals as goal
 
 pub returns-in_default : goal.returns-in_default
-returns-in_default c = 
+returns-in_default c =
     let a = c.args in
     let e = sym c.unpack_bytes_answer.ensures ∙ c.in_default.is in
     let the-pair = unpack_all_refused a.alphabet a.packets.now a.codes.now a.results.now NoRoom _ a.codes.now c.number.ensures
@@ -17,14 +17,14 @@ returns-in_default c =
     (lt-leb 16 _ c.if-results-lt-UNPACK_RESULTS.true) _ _ e) refl in record { number = the-pair.0; codes = the-pair.1.0; results = the-pair.1.1 }
 
 pub returns-then-results-lt-UNPACK_RESULTS : goal.returns-then-results-lt-UNPACK_RESULTS
-returns-then-results-lt-UNPACK_RESULTS c = 
+returns-then-results-lt-UNPACK_RESULTS c =
     let a = c.args in
     let e = sym c.unpack_bytes_answer.ensures ∙ c.in-Refused.is in
     let the-pair = unpack_all_refused a.alphabet a.packets.now a.codes.now a.results.now _ _ a.codes.now c.number-then-results-lt-UNPACK_RESULTS.ensures
     (unpack_refused a.alphabet a.packets.now (length a.codes.now) (length a.results.now) _ e) refl in record { number = the-pair.0; codes = the-pair.1.0; results = the-pair.1.1 }
 
 pub returns-in-Refused-unpack_bytes : goal.returns-in-Refused-unpack_bytes
-returns-in-Refused-unpack_bytes c = 
+returns-in-Refused-unpack_bytes c =
     let a = c.args in
     let e = sym c.unpack_bytes.ensures.answer ∙ c.in-Refused-unpack_bytes.is in
     let the-pair = unpack_all_refused a.alphabet a.packets.now a.codes.now a.results.now _ _ _ c.number-in-Refused-unpack_bytes.ensures
@@ -33,7 +33,7 @@ returns-in-Refused-unpack_bytes c =
     a.results.now _ e) in record { number = the-pair.0; codes = the-pair.1.0; results = the-pair.1.1 }
 
 pub returns-in-Unpacked : goal.returns-in-Unpacked
-returns-in-Unpacked c = 
+returns-in-Unpacked c =
     let a = c.args in
     let e = sym c.unpack_bytes.ensures.answer ∙
     c.in-Unpacked.is in

@@ -16,16 +16,16 @@ pub returns-in_default : goal.returns-in_default
 returns-in_default c = rest_none c.loop-end.invariant (sym c.next_element.ensures ∙ c.in_default.is)
 
 pub returns-then-left-eq0 : goal.returns-then-left-eq0
-returns-then-left-eq0 c = 
+returns-then-left-eq0 c =
     let turn : Turn c.loop-end.invariant c.in-Element.end = record { next = sym c.next_element.ensures ∙ c.in-Element.is } in
     turn_here (turn) _ refl c.if-left-eq0.true
 
 pub loop-end-smaller : goal.loop-end-smaller
-loop-end-smaller c = 
+loop-end-smaller c =
     let turn : Turn c.loop-end.invariant c.in-Element.end = record { next = sym c.next_element.ensures ∙ c.in-Element.is } in
     turn_less (turn)
 
 pub loop-end-preserved : goal.loop-end-preserved
-loop-end-preserved c = 
+loop-end-preserved c =
     let turn : Turn c.loop-end.invariant c.in-Element.end = record { next = sym c.next_element.ensures ∙ c.in-Element.is } in
     turn_on (turn) _ refl c.if-left-eq0.false

@@ -10,13 +10,13 @@ pub returns-then-b-2 : goal.returns-then-b-2
 returns-then-b-2 c = field_other _ _ _ c.byte-b.ensures c.if-b.false c.if-b-2.true
 
 pub returns-in-Refused : goal.returns-in-Refused
-returns-in-Refused c = 
+returns-in-Refused c =
     field_title _ _ _ c.byte-b.ensures
     c.if-b.false c.if-b-2.false
     c.text.ensures c.in-Refused.is
 
 pub returns-in-Part : goal.returns-in-Part
-returns-in-Part c = 
+returns-in-Part c =
     field_title _ _ _ c.byte-b.ensures
     c.if-b.false c.if-b-2.false
     c.text.ensures c.in-Part.is

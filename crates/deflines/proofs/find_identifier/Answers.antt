@@ -11,12 +11,12 @@ use borrow.Author.Rules.{rules}
 use Rattle.deflines.proofs.find_identifier.Goals as goal
 
 pub slice_bounds-s-end : goal.slice_bounds-s-end
-slice_bounds-s-end c = 
+slice_bounds-s-end c =
     let passed : let a = c.args in check_record a.header.now a.start a.end ≡ C.Passed = sym c.check_record.ensures ∙ c.in-Passed.is in
     passed_sized _ _ _ (passed)
 
 pub identifier_in_record-requires : goal.identifier_in_record-requires
-identifier_in_record-requires c = 
+identifier_in_record-requires c =
     let passed : let a = c.args in check_record a.header.now a.start a.end ≡ C.Passed = sym c.check_record.ensures ∙ c.in-Passed.is in
     passed_room _ _ _ (passed)
 
@@ -27,14 +27,14 @@ pub returns-in-Refused : goal.returns-in-Refused
 returns-in-Refused c = identifier_refused _ _ _ _ _ (sym c.check_record.ensures ∙ c.in-Refused.is)
 
 pub returns-in-Found : goal.returns-in-Found
-returns-in-Found c = 
+returns-in-Found c =
     let passed : let a = c.args in check_record a.header.now a.start a.end ≡ C.Passed = sym c.check_record.ensures ∙ c.in-Passed.is in
     let found = sym c.in-Found.is ∙ c.identifier_in_record.ensures in
     identifier_passed _ _ _ _ _ (passed)
     (ap I.Found c.identifier_at.ensures ∙ ap (identifier_given _) found)
 
 pub returns-in-Left : goal.returns-in-Left
-returns-in-Left c = 
+returns-in-Left c =
     let passed : let a = c.args in check_record a.header.now a.start a.end ≡ C.Passed = sym c.check_record.ensures ∙ c.in-Passed.is in
     identifier_passed _ _ _ _ _ (passed)
     (ap (identifier_given _) (sym c.in-Left.is ∙ c.identifier_in_record.ensures))

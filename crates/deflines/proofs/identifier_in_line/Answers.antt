@@ -18,28 +18,28 @@ pub returns-in_default : goal.returns-in_default
 returns-in_default c = rest_none c.loop-end.invariant (sym c.next_element.ensures ∙ c.in_default.is)
 
 pub field_at-field-requires : goal.field_at-field-requires
-field_at-field-requires c = 
+field_at-field-requires c =
     let turn : Turn c.loop-end.invariant c.in-Element.end = record { next = sym c.next_element.ensures ∙ c.in-Element.is } in
     turn_room (turn)
 
 pub loop-end-smaller-in_default-field : goal.loop-end-smaller-in_default-field
-loop-end-smaller-in_default-field c = 
+loop-end-smaller-in_default-field c =
     let turn : Turn c.loop-end.invariant c.in-Element.end = record { next = sym c.next_element.ensures ∙ c.in-Element.is } in
     turn_less (turn)
 
 pub loop-end-preserved-in_default-field : goal.loop-end-preserved-in_default-field
-loop-end-preserved-in_default-field c = 
+loop-end-preserved-in_default-field c =
     let turn : Turn c.loop-end.invariant c.in-Element.end = record { next = sym c.next_element.ensures ∙ c.in-Element.is } in
     turn_past (turn) (no_identifiers _ _ _ c.field_at-field.ensures c.in_default-field.not-Identifiers)
 
 pub element_in_list-found-requires : goal.element_in_list-found-requires
-element_in_list-found-requires c = 
+element_in_list-found-requires c =
     let turn : Turn c.loop-end.invariant c.in-Element.end = record { next = sym c.next_element.ensures ∙ c.in-Element.is } in
     list_inside _ _ _ c.field_at-field.ensures _ c.in-Identifiers.is
     (turn_room (turn))
 
 pub returns-in_default-found : goal.returns-in_default-found
-returns-in_default-found c = 
+returns-in_default-found c =
     let turn : Turn c.loop-end.invariant c.in-Element.end = record { next = sym c.next_element.ensures ∙ c.in-Element.is } in
     let f = c.in-Identifiers.is in
     let held = list_held _ _ _ c.field_at-field.ensures _ f in
@@ -48,12 +48,12 @@ returns-in_default-found c =
     c.in_default-found.is
 
 pub loop-end-smaller : goal.loop-end-smaller
-loop-end-smaller c = 
+loop-end-smaller c =
     let turn : Turn c.loop-end.invariant c.in-Element.end = record { next = sym c.next_element.ensures ∙ c.in-Element.is } in
     turn_less (turn)
 
 pub loop-end-preserved : goal.loop-end-preserved
-loop-end-preserved c = 
+loop-end-preserved c =
     let turn : Turn c.loop-end.invariant c.in-Element.end = record { next = sym c.next_element.ensures ∙ c.in-Element.is } in
     let f = c.in-Identifiers.is in
     let held = list_held _ _ _ c.field_at-field.ensures _ f in

@@ -10,11 +10,11 @@ pub returns-then-closes_at : goal.returns-then-closes_at
 returns-then-closes_at c = next-closed _ _ (sym c.closes_at.ensures ∙ c.if-closes_at.true)
 
 pub returns-in-Refused : goal.returns-in-Refused
-returns-in-Refused c = 
+returns-in-Refused c =
     let shut : closes c.args.s.now c.args.p ≡ false = sym c.closes_at.ensures ∙ c.if-closes_at.false in
     next-read _ _ (shut) c.element.ensures c.in-Refused.is
 
 pub returns-in-End : goal.returns-in-End
-returns-in-End c = 
+returns-in-End c =
     let shut : closes c.args.s.now c.args.p ≡ false = sym c.closes_at.ensures ∙ c.if-closes_at.false in
     next-read _ _ (shut) c.element.ensures c.in-End.is

@@ -8,12 +8,12 @@ use borrow.Author.Rules.{rules}
 use Rattle.deflines.proofs.title.Goals as goal
 
 pub slice_bounds-title_in_record-end : goal.slice_bounds-title_in_record-end
-slice_bounds-title_in_record-end c = 
+slice_bounds-title_in_record-end c =
     let passed : let a = c.args in check_record a.header.now a.start a.end ≡ C.Passed = sym c.check_record.ensures ∙ c.in-Passed.is in
     passed_sized _ _ _ (passed)
 
 pub title_in_record-requires : goal.title_in_record-requires
-title_in_record-requires c = 
+title_in_record-requires c =
     let passed : let a = c.args in check_record a.header.now a.start a.end ≡ C.Passed = sym c.check_record.ensures ∙ c.in-Passed.is in
     passed_room _ _ _ (passed)
 
@@ -21,13 +21,13 @@ pub returns-in-Refused : goal.returns-in-Refused
 returns-in-Refused c = title-refused _ _ _ _ _ (sym c.check_record.ensures ∙ c.in-Refused.is)
 
 pub returns-in-Found : goal.returns-in-Found
-returns-in-Found c = 
+returns-in-Found c =
     let passed : let a = c.args in check_record a.header.now a.start a.end ≡ C.Passed = sym c.check_record.ensures ∙ c.in-Passed.is in
     title_passed _ _ _ _ _ (passed)
     (ap title_given (sym c.in-Found.is ∙ c.title_in_record.ensures))
 
 pub returns-in-Left : goal.returns-in-Left
-returns-in-Left c = 
+returns-in-Left c =
     let passed : let a = c.args in check_record a.header.now a.start a.end ≡ C.Passed = sym c.check_record.ensures ∙ c.in-Passed.is in
     title_passed _ _ _ _ _ (passed)
     (ap title_given (sym c.in-Left.is ∙ c.title_in_record.ensures))

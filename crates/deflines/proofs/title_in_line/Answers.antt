@@ -18,34 +18,34 @@ pub returns-in_default : goal.returns-in_default
 returns-in_default c = rest_none c.loop-end.invariant (sym c.next_element.ensures ∙ c.in_default.is)
 
 pub field_at-field-requires : goal.field_at-field-requires
-field_at-field-requires c = 
+field_at-field-requires c =
     let turn : Turn c.loop-end.invariant c.in-Element.end = record { next = sym c.next_element.ensures ∙ c.in-Element.is } in
     turn_room (turn)
 
 pub loop-end-smaller-in_default-field : goal.loop-end-smaller-in_default-field
-loop-end-smaller-in_default-field c = 
+loop-end-smaller-in_default-field c =
     let turn : Turn c.loop-end.invariant c.in-Element.end = record { next = sym c.next_element.ensures ∙ c.in-Element.is } in
     turn_less (turn)
 
 pub loop-end-preserved-in_default-field : goal.loop-end-preserved-in_default-field
-loop-end-preserved-in_default-field c = 
+loop-end-preserved-in_default-field c =
     let turn : Turn c.loop-end.invariant c.in-Element.end = record { next = sym c.next_element.ensures ∙ c.in-Element.is } in
     turn_past (turn) (no_title _ _ _ c.field_at-field.ensures c.in_default-field.not-Title)
 
 pub returns-then-left-eq0 : goal.returns-then-left-eq0
-returns-then-left-eq0 c = 
+returns-then-left-eq0 c =
     let turn : Turn c.loop-end.invariant c.in-Element.end = record { next = sym c.next_element.ensures ∙ c.in-Element.is } in
     turn_here (turn) _
     (title_held _ _ _ c.field_at-field.ensures _ c.in-Title.is)
     c.if-left-eq0.true
 
 pub loop-end-smaller : goal.loop-end-smaller
-loop-end-smaller c = 
+loop-end-smaller c =
     let turn : Turn c.loop-end.invariant c.in-Element.end = record { next = sym c.next_element.ensures ∙ c.in-Element.is } in
     turn_less (turn)
 
 pub loop-end-preserved : goal.loop-end-preserved
-loop-end-preserved c = 
+loop-end-preserved c =
     let turn : Turn c.loop-end.invariant c.in-Element.end = record { next = sym c.next_element.ensures ∙ c.in-Element.is } in
     turn_on (turn) _
     (title_held _ _ _ c.field_at-field.ensures _ c.in-Title.is)

@@ -16,21 +16,21 @@ pub returns-in_default : goal.returns-in_default
 returns-in_default c = rest_none c.loop-end.invariant (sym c.next_element.ensures ∙ c.in_default.is)
 
 pub title_in_line-found-requires : goal.title_in_line-found-requires
-title_in_line-found-requires c = 
+title_in_line-found-requires c =
     let turn : Turn c.loop-end.invariant c.in-Element.end = record { next = sym c.next_element.ensures ∙ c.in-Element.is } in
     turn_room (turn)
 
 pub returns-in_default-found : goal.returns-in_default-found
-returns-in_default-found c = 
+returns-in_default-found c =
     let turn : Turn c.loop-end.invariant c.in-Element.end = record { next = sym c.next_element.ensures ∙ c.in-Element.is } in
     turn_found (turn) _ _ c.title_in_line-found.ensures c.in_default-found.is
 
 pub loop-end-smaller : goal.loop-end-smaller
-loop-end-smaller c = 
+loop-end-smaller c =
     let turn : Turn c.loop-end.invariant c.in-Element.end = record { next = sym c.next_element.ensures ∙ c.in-Element.is } in
     turn_less (turn)
 
 pub loop-end-preserved : goal.loop-end-preserved
-loop-end-preserved c = 
+loop-end-preserved c =
     let turn : Turn c.loop-end.invariant c.in-Element.end = record { next = sym c.next_element.ensures ∙ c.in-Element.is } in
     turn_left (turn) _ _ c.title_in_line-found.ensures c.in-Left.is

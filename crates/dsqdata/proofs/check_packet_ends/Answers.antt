@@ -12,7 +12,7 @@ pub check_ends-requires : goal.check_ends-requires
 check_ends-requires c = let e = c in (omega arith, few_of c.args.order c.args.index.now c.requires.0 c.requires.1)
 
 pub returns : goal.returns
-returns c = 
+returns c =
     let a = c.args in
     ends_here a.order a.index.now packet_table (packets_in a.sequence.now) c.requires.0
     (ap (λ (x : ℕ). x / 4) c.bytes_after_header-bytes.ensures) c.check_ends.ensures

@@ -4,7 +4,7 @@ use borrow.Author.Rules.{rules}
 use Rattle.dsqdata.proofs.check_set.Goals as goal
 
 pub returns-in-Refused : goal.returns-in-Refused
-returns-in-Refused c = 
+returns-in-Refused c =
     let a = c.args in
     files_stopped c.order_of-order.result a.index.now a.metadata.now a.sequence.now c.order_of-order.ensures
     c.check_files-files.ensures c.in-Refused.is
@@ -13,14 +13,14 @@ pub check_layout-layout-requires : goal.check_layout-layout-requires
 check_layout-layout-requires c = c.read_record-set.ensures
 
 pub returns-in-Refused-layout : goal.returns-in-Refused-layout
-returns-in-Refused-layout c = 
+returns-in-Refused-layout c =
     let a = c.args in
     layout_stopped c.order_of-order.result a.index.now a.metadata.now a.sequence.now c.order_of-order.ensures
     c.check_files-files.ensures c.in_default.is
     c.check_layout-layout.ensures c.in-Refused-layout.is
 
 pub check_content-content-requires : goal.check_content-content-requires
-check_content-content-requires c = 
+check_content-content-requires c =
     let a = c.args in
     let w = set_bounds c.order_of-order.result a.index.now a.metadata.now a.sequence.now c.order_of-order.ensures
     c.check_files-files.ensures c.in_default.is
@@ -28,7 +28,7 @@ check_content-content-requires c =
     (c.read_record-set.ensures, w.0, w.1)
 
 pub returns-in-Refused-content : goal.returns-in-Refused-content
-returns-in-Refused-content c = 
+returns-in-Refused-content c =
     let a = c.args in
     content_stopped c.order_of-order.result a.index.now a.metadata.now a.sequence.now c.order_of-order.ensures
     c.check_files-files.ensures
@@ -37,7 +37,7 @@ returns-in-Refused-content c =
     c.check_content-content.ensures c.in-Refused-content.is
 
 pub returns : goal.returns
-returns c = 
+returns c =
     let a = c.args in
     set_passed c.order_of-order.result a.index.now a.metadata.now a.sequence.now c.order_of-order.ensures
     c.check_files-files.ensures

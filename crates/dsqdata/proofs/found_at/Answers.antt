@@ -6,19 +6,19 @@ use borrow.Author.Rules.{rules}
 use Rattle.dsqdata.proofs.found_at.Goals as goal
 
 pub overflow_sub-bytes : goal.overflow_sub-bytes
-overflow_sub-bytes c = 
+overflow_sub-bytes c =
     let a = c.args in
     let l = part_rises a.order a.index.now metadata_table a.k c.requires.all_hold.0 in
     omega (arith, l, c.metadata_start-start.ensures, c.metadata_end.ensures.value)
 
 pub overflow_sub-packets : goal.overflow_sub-packets
-overflow_sub-packets c = 
+overflow_sub-packets c =
     let a = c.args in
     let l = part_rises a.order a.index.now packet_table a.k c.requires.all_hold.1 in
     omega (arith, l, c.run_start-run.ensures, c.run_end.ensures)
 
 pub returns : goal.returns
-returns c = 
+returns c =
     let start = c.metadata_start-start.ensures in
     let end = c.metadata_end.ensures.value in
     let run = c.run_start-run.ensures in

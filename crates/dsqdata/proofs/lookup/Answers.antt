@@ -25,8 +25,8 @@ returns-then-number-set c = let a = c.args in
     number-stopped a.set a.index.now a.number (le-leb _ _ c.if-index-gt-MOST_BYTES.false) c.check_count-counted.ensures t (le-ltb _ _ c.if-number-set.true)
 
 pub check_part-metadata-requires : goal.check_part-metadata-requires
-check_part-metadata-requires c = 
-    let few : c.args.number < 134217728 = 
+check_part-metadata-requires c =
+    let few : c.args.number < 134217728 =
     let a = c.args in
     let t = c.in_default.is in
     let l = lookup_few a.set a.index.now a.number (le-leb _ _ c.if-index-gt-MOST_BYTES.false) c.check_count-counted.ensures t in
@@ -40,8 +40,8 @@ returns-in-Refused-metadata c = let a = c.args in
     c.check_part-metadata.ensures c.in-Refused-metadata.is
 
 pub check_part-packets-requires : goal.check_part-packets-requires
-check_part-packets-requires c = 
-    let few : c.args.number < 134217728 = 
+check_part-packets-requires c =
+    let few : c.args.number < 134217728 =
     let a = c.args in
     let t = c.in_default.is in
     let l = lookup_few a.set a.index.now a.number (le-leb _ _ c.if-index-gt-MOST_BYTES.false) c.check_count-counted.ensures t in
@@ -55,16 +55,19 @@ returns-in-Refused-packets c = let a = c.args in
     c.check_part-metadata.ensures c.in_default-metadata.is c.check_part-packets.ensures c.in-Refused-packets.is
 
 pub found_at-requires : goal.found_at-requires
-found_at-requires c = 
-    let few : c.args.number < 134217728 = 
+found_at-requires c =
+    let few : c.args.number < 134217728 =
     let a = c.args in
     let t = c.in_default.is in
     let l = lookup_few a.set a.index.now a.number (le-leb _ _ c.if-index-gt-MOST_BYTES.false) c.check_count-counted.ensures t in
     omega (arith, l, c.if-number-set.false) in
-    let a = c.args in record { k_bound = few; all_hold = (
+    let a = c.args in record {
+      k_bound = few;
+      all_hold = (
         all_hold (part_rules a.set.order a.index.now metadata_table a.number) _ c.check_part-metadata.ensures c.in_default-metadata.is,
         all_hold (part_rules a.set.order a.index.now packet_table a.number) _ c.check_part-packets.ensures c.in_default-packets.is,
-      ) }
+      );
+    }
 
 pub returns : goal.returns
 returns c = let a = c.args in

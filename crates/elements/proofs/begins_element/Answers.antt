@@ -13,5 +13,5 @@ pub returns-then-b-eq48 : goal.returns-then-b-eq48
 returns-then-b-eq48 c = rw (ne_eqb _ _ c.if-b-eq2.false, ne_eqb _ _ c.if-b-eq26.false, eq-eqb _ _ c.if-b-eq48.true)
 
 pub returns : goal.returns
-returns c = 
+returns c =
     rw (ne_eqb _ _ c.if-b-eq2.false, ne_eqb _ _ c.if-b-eq26.false, ne_eqb _ _ c.if-b-eq48.false) c.in_range.ensures

@@ -10,5 +10,5 @@ pub returns-then-n-gt8 : goal.returns-then-n-gt8
 returns-then-n-gt8 c = allowed_many _ _ (bytes-length _ _ _ c.requires) c.if-n-gt8.true
 
 pub returns : goal.returns
-returns c = 
+returns c =
     allowed-some _ _ (bytes-length _ _ _ c.requires) _ c.if-n-lt1.false c.if-n-gt8.false c.is_padded.ensures

@@ -18,16 +18,16 @@ pub overflow_mul-nine : goal.overflow_mul-nine
 overflow_mul-nine c = omega (arith, c.shared_slice_known-2-1.given c.args.at)
 
 pub overflow_add-nine : goal.overflow_add-nine
-overflow_add-nine c = 
+overflow_add-nine c =
     let place = c.args.at in
     omega (arith, c.shared_slice_known-2-1.given place, c.shared_slice_known-2-1.given (place + 1))
 
 pub returns-then-nine-eq0 : goal.returns-then-nine-eq0
-returns-then-nine-eq0 c = 
+returns-then-nine-eq0 c =
     padded_none _ _ _ c.requires c.if-n-le1.false
     (λ i. (c.shared_slice_known-2-1.given i).fits) c.if-nine-eq0.true
 
 pub returns : goal.returns
-returns c = 
+returns c =
     padded_some _ _ _ c.requires c.if-n-le1.false
     (λ i. (c.shared_slice_known-2-1.given i).fits) c.if-nine-eq0.false

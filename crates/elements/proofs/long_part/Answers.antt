@@ -7,5 +7,5 @@ pub returns-then-s-at : goal.returns-then-s-at
 returns-then-s-at c = long-short _ _ _ c.if-s-at.true
 
 pub returns : goal.returns
-returns c = 
+returns c =
     long-fits _ _ _ _ _ c.requires.0 c.if-s-at.false c.number_at-n.ensures c.part_at.ensures

@@ -22,7 +22,7 @@ pub overflow_add-x : goal.overflow_add-x
 overflow_add-x c = omega (arith, room _ _ (omega arith) c.loop-i.invariant.1)
 
 pub loop-i-preserved : goal.loop-i-preserved
-loop-i-preserved c = 
+loop-i-preserved c =
     let l = c.loop-i in
     let a = c.args in (
       omega arith,
@@ -31,7 +31,7 @@ loop-i-preserved c =
     )
 
 pub returns : goal.returns
-returns c = 
+returns c =
     let l = c.loop-i in
     let a = c.args in
     sym (value-done 8 a.s.now (a.at + l.i) (a.k - l.i) l.x (omega arith)) ∙ l.invariant.2

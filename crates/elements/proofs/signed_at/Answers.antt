@@ -5,7 +5,7 @@ use borrow.Author.Rules.{rules}
 use Rattle.elements.proofs.signed_at.Goals as goal
 
 pub returns-then-x-most : goal.returns-then-x-most
-returns-then-x-most c = 
+returns-then-x-most c =
     let counted : let a = c.args in
     Counted a.s.now a.at a.n c.number_at-x.result c.largest-most.result = let pre = c.requires in
     record {
@@ -19,7 +19,7 @@ returns-then-x-most c =
     signed_low (counted) c.if-x-most.true
 
 pub overflow_sub-result : goal.overflow_sub-result
-overflow_sub-result c = 
+overflow_sub-result c =
     let counted : let a = c.args in
     Counted a.s.now a.at a.n c.number_at-x.result c.largest-most.result = let pre = c.requires in
     record {
@@ -33,7 +33,7 @@ overflow_sub-result c =
     let h = value-small (counted) in omega arith
 
 pub overflow_cast-result-2 : goal.overflow_cast-result-2
-overflow_cast-result-2 c = 
+overflow_cast-result-2 c =
     let counted : let a = c.args in
     Counted a.s.now a.at a.n c.number_at-x.result c.largest-most.result = let pre = c.requires in
     record {
@@ -47,7 +47,7 @@ overflow_cast-result-2 c =
     let h = most-fits (counted) in omega arith
 
 pub returns : goal.returns
-returns c = 
+returns c =
     let counted : let a = c.args in
     Counted a.s.now a.at a.n c.number_at-x.result c.largest-most.result = let pre = c.requires in
     record {

@@ -20,7 +20,7 @@ pub part_end-e-requires : goal.part_end-e-requires
 part_end-e-requires c = let a = c.args in integer-within a.s.now (a.at + 1) _ c.integer_part.ensures
 
 pub returns-then-b-eq2 : goal.returns-then-b-eq2
-returns-then-b-eq2 c = 
+returns-then-b-eq2 c =
     let begins : let a = c.args in MayBegin a.form a.s.now a.at c.byte-b.result = record {
       there = c.if-s-at.false;
       byte = c.byte-b.ensures;
@@ -32,7 +32,7 @@ pub part_end-e-requires-then-b-eq26 : goal.part_end-e-requires-then-b-eq26
 part_end-e-requires-then-b-eq26 c = let a = c.args in text-within a.s.now (a.at + 1) _ c.text_part.ensures
 
 pub returns-then-b-eq26 : goal.returns-then-b-eq26
-returns-then-b-eq26 c = 
+returns-then-b-eq26 c =
     let begins : let a = c.args in MayBegin a.form a.s.now a.at c.byte-b.result = record {
       there = c.if-s-at.false;
       byte = c.byte-b.ensures;
@@ -42,7 +42,7 @@ returns-then-b-eq26 c =
     (c.part_end-e-then-b-eq26.ensures ∙ ap end_of c.text_part.ensures)
 
 pub returns-then-not-opens_at : goal.returns-then-not-opens_at
-returns-then-not-opens_at c = 
+returns-then-not-opens_at c =
     let begins : let a = c.args in MayBegin a.form a.s.now a.at c.byte-b.result = record {
       there = c.if-s-at.false;
       byte = c.byte-b.ensures;
@@ -52,7 +52,7 @@ returns-then-not-opens_at c =
     (sym c.opens_at.ensures ∙ c.if-not-opens_at.true)
 
 pub returns-then-b-eq48 : goal.returns-then-b-eq48
-returns-then-b-eq48 c = 
+returns-then-b-eq48 c =
     let begins : let a = c.args in MayBegin a.form a.s.now a.at c.byte-b.result = record {
       there = c.if-s-at.false;
       byte = c.byte-b.ensures;
@@ -68,7 +68,7 @@ returns-then-b-eq48 c =
     start-list (opened) c.if-b-eq48.true c.form_inside-i.ensures
 
 pub returns-then-in_range : goal.returns-then-in_range
-returns-then-in_range c = 
+returns-then-in_range c =
     let begins : let a = c.args in MayBegin a.form a.s.now a.at c.byte-b.result = record {
       there = c.if-s-at.false;
       byte = c.byte-b.ensures;
@@ -85,7 +85,7 @@ returns-then-in_range c =
     (sym c.in_range.ensures ∙ c.if-in_range.true) c.form_inside-i-then-in_range.ensures
 
 pub returns : goal.returns
-returns c = 
+returns c =
     let begins : let a = c.args in MayBegin a.form a.s.now a.at c.byte-b.result = record {
       there = c.if-s-at.false;
       byte = c.byte-b.ensures;

@@ -8,7 +8,7 @@ pub returns-then-byte-ne26 : goal.returns-then-byte-ne26
 returns-then-byte-ne26 c = text-other _ _ _ c.byte.ensures c.if-byte-ne26.true
 
 pub overflow_add-at : goal.overflow_add-at
-overflow_add-at c = 
+overflow_add-at c =
     let a = c.args in
     let h = inside_file a.s.now a.at c.byte.result c.byte.ensures (λ z. omega arith) in
     omega arith

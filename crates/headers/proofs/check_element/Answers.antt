@@ -11,13 +11,13 @@ pub returns-in-Refused : goal.returns-in-Refused
 returns-in-Refused c = nest_refused _ _ _ (sym c.element.ensures ∙ c.in-Refused.is)
 
 pub returns-in-Refused-element : goal.returns-in-Refused-element
-returns-in-Refused-element c = 
+returns-in-Refused-element c =
     shape-refused _ _ _
     (sym c.element.ensures ∙ c.in-End.is)
     c.if-n-s.false _ (sym c.element-in-End.ensures ∙ c.in-Refused-element.is)
 
 pub returns-in-End-element : goal.returns-in-End-element
-returns-in-End-element c = 
+returns-in-End-element c =
     shape-read _ _ _
     (sym c.element.ensures ∙ c.in-End.is)
     c.if-n-s.false _ (sym c.element-in-End.ensures ∙ c.in-End-element.is)

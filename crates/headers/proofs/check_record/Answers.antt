@@ -15,11 +15,11 @@ pub returns-then-header-end : goal.returns-then-header-end
 returns-then-header-end c = record-past _ _ _ c.if-header-gt-MOST_BYTES.false c.if-end-start.false c.if-header-end.true
 
 pub slice_bounds-check_element-end : goal.slice_bounds-check_element-end
-slice_bounds-check_element-end c = 
+slice_bounds-check_element-end c =
     let a = c.args in
     sym (length-take-le a.end a.header.now c.if-header-end.false)
 
 pub returns : goal.returns
-returns c = 
+returns c =
     record_element _ _ _ c.if-header-gt-MOST_BYTES.false c.if-end-start.false _ c.if-header-end.false
     c.check_element.ensures

@@ -14,31 +14,31 @@ pub returns-then-kind-gt179 : goal.returns-then-kind-gt179
 returns-then-kind-gt179 c = let a = c.args in let the-pair = above a.kind a.out.now c.if-kind-lt160.false c.if-kind-gt179.true in record { value = the-pair.0; out_after = the-pair.1 }
 
 pub overflow_sub-end : goal.overflow_sub-end
-overflow_sub-end c = 
+overflow_sub-end c =
     let place : ℕ = c.args.kind - 160 in
     let within : place < 20 = let h = c.if-kind-lt160.false in let l = c.if-kind-gt179.false in omega arith in
     omega (arith, placed (place) (within))
 
 pub slice_bounds-put_name-count : goal.slice_bounds-put_name-count
-slice_bounds-put_name-count c = 
+slice_bounds-put_name-count c =
     let place : ℕ = c.args.kind - 160 in
     let within : place < 20 = let h = c.if-kind-lt160.false in let l = c.if-kind-gt179.false in omega arith in
     omega (arith, placed (place) (within))
 
 pub slice_bounds-put_name-start : goal.slice_bounds-put_name-start
-slice_bounds-put_name-start c = 
+slice_bounds-put_name-start c =
     let place : ℕ = c.args.kind - 160 in
     let within : place < 20 = let h = c.if-kind-lt160.false in let l = c.if-kind-gt179.false in omega arith in
     omega (arith, placed (place) (within))
 
 pub slice_bounds-put_name-end : goal.slice_bounds-put_name-end
-slice_bounds-put_name-end c = 
+slice_bounds-put_name-end c =
     let place : ℕ = c.args.kind - 160 in
     let within : place < 20 = let h = c.if-kind-lt160.false in let l = c.if-kind-gt179.false in omega arith in
     omega (arith, placed (place) (within))
 
 pub returns : goal.returns
-returns c = 
+returns c =
     let place : ℕ = c.args.kind - 160 in
     let within : place < 20 = let h = c.if-kind-lt160.false in let l = c.if-kind-gt179.false in omega arith in
     let a = c.args in

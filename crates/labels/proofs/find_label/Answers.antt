@@ -11,24 +11,24 @@ pub returns-then-header-gt-MOST_BYTES : goal.returns-then-header-gt-MOST_BYTES
 returns-then-header-gt-MOST_BYTES c = label_large _ _ _ c.if-header-gt-MOST_BYTES.true
 
 pub returns-then-x-number : goal.returns-then-x-number
-returns-then-x-number c = 
+returns-then-x-number c =
     let index : IndexRead c.args.index.now c.in-Read.x = index_read _ _ (sym c.read_index.ensures ∙ c.in-Read.is) in
     let r = index in
     let e = sym c.read_index.ensures ∙ c.in-Read.is in
     label_none _ _ _ c.if-header-gt-MOST_BYTES.false _ e (omega (arith, r.number))
 
 pub header_offset-low-requires : goal.header_offset-low-requires
-header_offset-low-requires c = 
+header_offset-low-requires c =
     let index : IndexRead c.args.index.now c.in-Read.x = index_read _ _ (sym c.read_index.ensures ∙ c.in-Read.is) in
     let r = index in (omega (arith, r.table, r.reaches, r.small), omega (arith, r.number, r.few))
 
 pub overflow_add-i : goal.overflow_add-i
-overflow_add-i c = 
+overflow_add-i c =
     let index : IndexRead c.args.index.now c.in-Read.x = index_read _ _ (sym c.read_index.ensures ∙ c.in-Read.is) in
     let r = index in omega (arith, r.number, r.few)
 
 pub header_offset-high-requires : goal.header_offset-high-requires
-header_offset-high-requires c = 
+header_offset-high-requires c =
     let index : IndexRead c.args.index.now c.in-Read.x = index_read _ _ (sym c.read_index.ensures ∙ c.in-Read.is) in
     let r = index in (omega (arith, r.table, r.reaches, r.small), omega (arith, r.number, r.few))
 
@@ -36,7 +36,7 @@ pub returns-in-Refused : goal.returns-in-Refused
 returns-in-Refused c = label_index_refused _ _ _ c.if-header-gt-MOST_BYTES.false _ (sym c.read_index.ensures ∙ c.in-Refused.is)
 
 pub returns-else-x-number : goal.returns-else-x-number
-returns-else-x-number c = 
+returns-else-x-number c =
     let index : IndexRead c.args.index.now c.in-Read.x = index_read _ _ (sym c.read_index.ensures ∙ c.in-Read.is) in
     let r = index in
     let e = sym c.read_index.ensures ∙ c.in-Read.is in

@@ -19,17 +19,17 @@ pub slice_bounds-result-end-in-InIndex : goal.slice_bounds-result-end-in-InIndex
 slice_bounds-result-end-in-InIndex c = omega (arith, label_within _ _ _ _ (sym c.find_label.ensures ∙ c.in-InIndex.is))
 
 pub returns-in-InHeader : goal.returns-in-InHeader
-returns-in-InHeader c = 
+returns-in-InHeader c =
     let e = sym c.find_label.ensures ∙ c.in-InHeader.is in
     record { part = part_header _ _ _ _ e; place = place_header _ _ _ _ e }
 
 pub returns-in-InIndex : goal.returns-in-InIndex
-returns-in-InIndex c = 
+returns-in-InIndex c =
     let e = sym c.find_label.ensures ∙ c.in-InIndex.is in
     record { part = part_index _ _ _ _ e; place = place_index _ _ _ _ e }
 
 pub returns-in-Refused : goal.returns-in-Refused
-returns-in-Refused c = 
+returns-in-Refused c =
     let a = c.args in
     let e = sym c.find_label.ensures ∙ c.in-Refused.is in
     record { part = sym (ap (label_part a.index.now a.header.now) e); place = place-refused a.index.ref_ptr a.header.ref_ptr _ _ e }

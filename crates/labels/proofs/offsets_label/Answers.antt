@@ -12,7 +12,7 @@ use borrow.Author.Rules.{rules}
 use Rattle.labels.proofs.offsets_label.Goals as goal
 
 pub returns-in-Refused : goal.returns-in-Refused
-returns-in-Refused c = 
+returns-in-Refused c =
     let low-is : to_z w32 (of_z w32 c.args.low) ≡ c.args.low = to_z-of_z w32 c.args.low c.ranges.low in
     let high_is : to_z w32 (of_z w32 c.args.high) ≡ c.args.high = to_z-of_z w32 c.args.high c.ranges.high in
     let own_is : let a = c.args in
@@ -21,7 +21,7 @@ returns-in-Refused c =
     offsets-refused a.header.now _ a.low a.high _ (own_is) _ c.in-Refused.is
 
 pub returns-in-Passed : goal.returns-in-Passed
-returns-in-Passed c = 
+returns-in-Passed c =
     let low-is : to_z w32 (of_z w32 c.args.low) ≡ c.args.low = to_z-of_z w32 c.args.low c.ranges.low in
     let high_is : to_z w32 (of_z w32 c.args.high) ≡ c.args.high = to_z-of_z w32 c.args.high c.ranges.high in
     let own_is : let a = c.args in

@@ -34,7 +34,7 @@ put_number-requires c = omega (
 
 pub returns : goal.returns
 unfolding head_text
-returns c = 
+returns c =
     let v = c.args.v in
     let r = number_then v.residues space in
     let l = number_then v.longest line_feed in

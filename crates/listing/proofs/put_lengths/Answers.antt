@@ -16,7 +16,7 @@ pub loop-i-init : goal.loop-i-init
 loop-i-init c = let a = c.args in (search rules, search rules, put_none a.out.now a.at)
 
 pub put_length-next-requires : goal.put_length-next-requires
-put_length-next-requires c = 
+put_length-next-requires c =
     let a = c.args in
     let l = c.loop-i in
     let f = length_of_number a.index.now a.sequence.now in
@@ -24,7 +24,7 @@ put_length-next-requires c =
     rw c.sequence_length.ensures (omega (arith, length-append (lengths_text f l.i) (length_text l.i (f l.i)), l.invariant.2.place))
 
 pub loop-i-preserved : goal.loop-i-preserved
-loop-i-preserved c = 
+loop-i-preserved c =
     let a = c.args in
     let l = c.loop-i in
     let f = length_of_number a.index.now a.sequence.now in

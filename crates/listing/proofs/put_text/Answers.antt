@@ -13,7 +13,7 @@ pub loop-k-init : goal.loop-k-init
 loop-k-init c = let a = c.args in (search rules, search rules, paste-zero a.out.now a.at a.text.now)
 
 pub loop-k-preserved : goal.loop-k-preserved
-loop-k-preserved c = 
+loop-k-preserved c =
     let a = c.args in
     let l = c.loop-k in
     let k = l.k in
@@ -25,7 +25,7 @@ loop-k-preserved c =
     )
 
 pub returns : goal.returns
-returns c = 
+returns c =
     let a = c.args in
     let l = c.loop-k in
     let e : l.k ≡ length a.text.now = omega arith in

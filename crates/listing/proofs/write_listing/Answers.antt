@@ -11,7 +11,7 @@ pub put_refused-requires : goal.put_refused-requires
 put_refused-requires c = omega (arith, refused-fits c.number.result)
 
 pub put_volume-requires : goal.put_volume-requires
-put_volume-requires c = 
+put_volume-requires c =
     let a = c.args in
     let f = volume_fits a.index.now a.sequence.now a.header.now _
     (sym c.check_listed.ensures ∙ c.in-Passed.is) in
@@ -19,14 +19,14 @@ put_volume-requires c =
 
 pub returns-in-Refused : goal.returns-in-Refused
 unfolding listing_text
-returns-in-Refused c = 
+returns-in-Refused c =
     let a = c.args in
     let e = sym c.check_listed.ensures ∙ c.in-Refused.is in
     let the-pair = listing_put a.index.now a.sequence.now a.header.now (rw e (ap refused_text (sym c.number.ensures))) c.put_refused.ensures in record { len = the-pair.0; out = the-pair.1 }
 
 pub returns-in-Passed : goal.returns-in-Passed
 unfolding listing_text
-returns-in-Passed c = 
+returns-in-Passed c =
     let a = c.args in
     let e = sym c.check_listed.ensures ∙ c.in-Passed.is in
     let the-pair = listing_put a.index.now a.sequence.now a.header.now (rw e) c.put_volume.ensures in record { len = the-pair.0; out = the-pair.1 }

@@ -20,7 +20,7 @@ pub bounds-file-from : goal.bounds-file-from
 bounds-file-from c = omega (arith, c.requires)
 
 pub loop-k-preserved : goal.loop-k-preserved
-loop-k-preserved c = 
+loop-k-preserved c =
     let a = c.args in
     let l = c.loop-k in
     let d = c.described in
@@ -28,7 +28,7 @@ loop-k-preserved c =
     (omega arith, least_more stays l.k l.least d.result c.smaller_byte-least.ensures l.invariant.1 d.ensures)
 
 pub returns : goal.returns
-returns c = 
+returns c =
     let a = c.args in
     let l = c.loop-k in
     let n : l.k ≡ a.count = omega arith in

@@ -12,7 +12,7 @@ use borrow.Author.Rules.{rules}
 use Rattle.metadata.proofs.behind_description.Goals as goal
 
 pub returns-then-not-is_taxonomy : goal.returns-then-not-is_taxonomy
-returns-then-not-is_taxonomy c = 
+returns-then-not-is_taxonomy c =
     let a = c.args in
     let file = a.file.now in
     let whole = eq-eqb (a.d + 5) a.to (omega (arith, c.requires)) in
@@ -21,7 +21,7 @@ returns-then-not-is_taxonomy c =
     rw (whole, t)
 
 pub returns : goal.returns
-returns c = 
+returns c =
     let a = c.args in
     let file = a.file.now in
     let whole = eq-eqb (a.d + 5) a.to (omega (arith, c.requires)) in

@@ -8,7 +8,7 @@ use borrow.Author.Rules.{rules}
 use Rattle.metadata.proofs.is_description.Goals as goal
 
 pub returns-then-file-nul : goal.returns-then-file-nul
-returns-then-file-nul c = 
+returns-then-file-nul c =
     let a = c.args in
     past-closed false a.file.now a.from a.nul c.if-file-nul.true c.requires
 

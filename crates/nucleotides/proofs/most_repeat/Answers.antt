@@ -6,17 +6,17 @@ use borrow.Author.Rules.{rules}
 use Rattle.nucleotides.proofs.most_repeat.Goals as goal
 
 pub overflow_mul-result : goal.overflow_mul-result
-overflow_mul-result c = 
+overflow_mul-result c =
     let s = repeat_shift c.args.w c.requires in
     record { fits = omega arith }
 
 pub overflow_sub-result : goal.overflow_sub-result
-overflow_sub-result c = 
+overflow_sub-result c =
     let s = repeat_shift c.args.w c.requires in
     omega arith
 
 pub overflow_shl-result : goal.overflow_shl-result
-overflow_shl-result c = 
+overflow_shl-result c =
     let s = repeat_shift c.args.w c.requires in
     omega arith
 

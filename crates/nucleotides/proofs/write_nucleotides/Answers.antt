@@ -33,47 +33,47 @@ returns-then-found-gt15 c = let if1 = c.if-codes-gt-MOST_BYTES in
     let the-pair = refused_both cs a.out.now _ (answer-bad cs (length a.out.now) if1.false survey.result.largest survey.ensures.largest c.if-found-gt15.true) in record { value = the-pair.0; out_after = the-pair.1 }
 
 pub overflow_mul-table : goal.overflow_mul-table
-overflow_mul-table c = 
+overflow_mul-table c =
     let found : ℕ = c.survey-found.result.pieces in
     let wide : ℕ = c.width_of-w.result in
     let codes : List ℕ = c.args.codes.now in
     let most-entries : wide * found ≤ 17179869176 = let n = pieces-count c.most_repeat.result 0 0 codes in
-      let e = c.survey-found.ensures.pieces in
-      entries-most wide found c.width_of-w.ensures.either (omega arith) in
+    let e = c.survey-found.ensures.pieces in
+    entries-most wide found c.width_of-w.ensures.either (omega arith) in
     let s = most-entries in record { fits = omega arith }
 
 pub overflow_add-table : goal.overflow_add-table
-overflow_add-table c = 
+overflow_add-table c =
     let found : ℕ = c.survey-found.result.pieces in
     let wide : ℕ = c.width_of-w.result in
     let codes : List ℕ = c.args.codes.now in
     let most-entries : wide * found ≤ 17179869176 = let n = pieces-count c.most_repeat.result 0 0 codes in
-      let e = c.survey-found.ensures.pieces in
-      entries-most wide found c.width_of-w.ensures.either (omega arith) in
+    let e = c.survey-found.ensures.pieces in
+    entries-most wide found c.width_of-w.ensures.either (omega arith) in
     let survey = c.survey-found in
     let word_size = c.word_size in
     let s = most-entries in let m = word_most survey.result.pieces in let e = word_size.ensures in record { fits = omega arith }
 
 pub overflow_add-two_bit-2 : goal.overflow_add-two_bit-2
-overflow_add-two_bit-2 c = 
+overflow_add-two_bit-2 c =
     let found : ℕ = c.survey-found.result.pieces in
     let wide : ℕ = c.width_of-w.result in
     let codes : List ℕ = c.args.codes.now in
     let most-entries : wide * found ≤ 17179869176 = let n = pieces-count c.most_repeat.result 0 0 codes in
-      let e = c.survey-found.ensures.pieces in
-      entries-most wide found c.width_of-w.ensures.either (omega arith) in
+    let e = c.survey-found.ensures.pieces in
+    entries-most wide found c.width_of-w.ensures.either (omega arith) in
     let survey = c.survey-found in
     let word_size = c.word_size in
     let s = most-entries in let m = word_most survey.result.pieces in let e = word_size.ensures in record { fits = omega arith }
 
 pub returns-then-two_bit-table-gt-MOST_BYTES : goal.returns-then-two_bit-table-gt-MOST_BYTES
-returns-then-two_bit-table-gt-MOST_BYTES c = 
+returns-then-two_bit-table-gt-MOST_BYTES c =
     let found : ℕ = c.survey-found.result.pieces in
     let wide : ℕ = c.width_of-w.result in
     let codes : List ℕ = c.args.codes.now in
     let table : c.word_size.result + wide * found ≡ range_size codes = size_told codes wide c.most_repeat.result found c.word_size.result
-      c.width_of-w.ensures.value c.most_repeat.ensures
-      c.survey-found.ensures.pieces c.word_size.ensures in
+    c.width_of-w.ensures.value c.most_repeat.ensures
+    c.survey-found.ensures.pieces c.word_size.ensures in
     let needed : length codes / 4 + 1 + (c.word_size.result + wide * found) ≡ bytes_needed codes = ap (λ (n : ℕ). length codes / 4 + 1 + n) table in
     let if1 = c.if-codes-gt-MOST_BYTES in
     let survey = c.survey-found in
@@ -84,13 +84,13 @@ returns-then-two_bit-table-gt-MOST_BYTES c =
     (answer-wide cs (length a.out.now) if1.false survey.result.largest survey.ensures.largest (omega arith) (omega arith)) in record { value = the-pair.0; out_after = the-pair.1 }
 
 pub returns-then-out-two_bit : goal.returns-then-out-two_bit
-returns-then-out-two_bit c = 
+returns-then-out-two_bit c =
     let found : ℕ = c.survey-found.result.pieces in
     let wide : ℕ = c.width_of-w.result in
     let codes : List ℕ = c.args.codes.now in
     let table : c.word_size.result + wide * found ≡ range_size codes = size_told codes wide c.most_repeat.result found c.word_size.result
-      c.width_of-w.ensures.value c.most_repeat.ensures
-      c.survey-found.ensures.pieces c.word_size.ensures in
+    c.width_of-w.ensures.value c.most_repeat.ensures
+    c.survey-found.ensures.pieces c.word_size.ensures in
     let needed : length codes / 4 + 1 + (c.word_size.result + wide * found) ≡ bytes_needed codes = ap (λ (n : ℕ). length codes / 4 + 1 + n) table in
     let if1 = c.if-codes-gt-MOST_BYTES in
     let survey = c.survey-found in
@@ -101,16 +101,16 @@ returns-then-out-two_bit c =
     (answer-short cs (length a.out.now) if1.false survey.result.largest survey.ensures.largest (omega arith) (omega arith) (omega arith)) in record { value = the-pair.0; out_after = the-pair.1 }
 
 pub write_sequence-requires : goal.write_sequence-requires
-write_sequence-requires c = 
+write_sequence-requires c =
     let found : ℕ = c.survey-found.result.pieces in
     let wide : ℕ = c.width_of-w.result in
     let codes : List ℕ = c.args.codes.now in
     let count : found ≡ length (corrections_of codes) = count_told codes wide c.most_repeat.result found c.word_size.result
-      c.width_of-w.ensures.value c.most_repeat.ensures
-      c.survey-found.ensures.pieces in
+    c.width_of-w.ensures.value c.most_repeat.ensures
+    c.survey-found.ensures.pieces in
     let table : c.word_size.result + wide * found ≡ range_size codes = size_told codes wide c.most_repeat.result found c.word_size.result
-      c.width_of-w.ensures.value c.most_repeat.ensures
-      c.survey-found.ensures.pieces c.word_size.ensures in
+    c.width_of-w.ensures.value c.most_repeat.ensures
+    c.survey-found.ensures.pieces c.word_size.ensures in
     let needed : length codes / 4 + 1 + (c.word_size.result + wide * found) ≡ bytes_needed codes = ap (λ (n : ℕ). length codes / 4 + 1 + n) table in
     let if1 = c.if-codes-gt-MOST_BYTES in
     let width_of_lem = c.width_of-w in
@@ -120,13 +120,13 @@ write_sequence-requires c =
     record { w_value = (width_of_lem.ensures.value, count, if1.false); codes_bound = omega arith; codes_bound_2 = omega arith }
 
 pub returns : goal.returns
-returns c = 
+returns c =
     let found : ℕ = c.survey-found.result.pieces in
     let wide : ℕ = c.width_of-w.result in
     let codes : List ℕ = c.args.codes.now in
     let table : c.word_size.result + wide * found ≡ range_size codes = size_told codes wide c.most_repeat.result found c.word_size.result
-      c.width_of-w.ensures.value c.most_repeat.ensures
-      c.survey-found.ensures.pieces c.word_size.ensures in
+    c.width_of-w.ensures.value c.most_repeat.ensures
+    c.survey-found.ensures.pieces c.word_size.ensures in
     let needed : length codes / 4 + 1 + (c.word_size.result + wide * found) ≡ bytes_needed codes = ap (λ (n : ℕ). length codes / 4 + 1 + n) table in
     let if1 = c.if-codes-gt-MOST_BYTES in
     let survey = c.survey-found in

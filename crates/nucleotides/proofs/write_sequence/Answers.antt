@@ -45,7 +45,7 @@ pub overflow_sub-end : goal.overflow_sub-end
 overflow_sub-end c = let e = c.block_end-end.ensures in omega arith
 
 pub write_bytes-requires : goal.write_bytes-requires
-write_bytes-requires c = 
+write_bytes-requires c =
     let codes : List ℕ = c.args.codes.now in
     let old : List ℕ = c.args.out.now in
     let w : ℕ = c.args.w in
@@ -56,10 +56,13 @@ write_bytes-requires c =
     let l = c.loop-m in
     let e = c.block_end-end in
     let top = c.largest_in-largest in
-    let g = going in record { n_in_bounds = (omega (arith, e.ensures), omega (arith, e.ensures, g.size, needed, c.requires.codes_bound)); largest_bound = (
+    let g = going in record {
+      n_in_bounds = (omega (arith, e.ensures), omega (arith, e.ensures, g.size, needed, c.requires.codes_bound));
+      largest_bound = (
         rw top.ensures (part_less (codes) (4 * l.m) (4 * e.result) 16 (omega (arith, e.ensures)) c.requires.codes_bound_2),
         λ k x y. rw top.ensures (at_most_largest (codes) (4 * l.m) (4 * e.result) k x (omega (arith, e.ensures))),
-      ) }
+      );
+    }
 
 pub overflow_mul-end-in-loop-m : goal.overflow_mul-end-in-loop-m
 overflow_mul-end-in-loop-m c = let e = c.block_end-end.ensures in
@@ -67,7 +70,7 @@ overflow_mul-end-in-loop-m c = let e = c.block_end-end.ensures in
     record { fits = omega arith }
 
 pub overflow_mul-w : goal.overflow_mul-w
-overflow_mul-w c = 
+overflow_mul-w c =
     let codes : List ℕ = c.args.codes.now in
     let old : List ℕ = c.args.out.now in
     let w : ℕ = c.args.w in
@@ -76,11 +79,11 @@ overflow_mul-w c =
     let going : Going codes old w limit n c.loop-m.out c.loop-m.next c.loop-m.done c.loop-m.m = c.loop-m.invariant.3 in
     let needed : bytes_needed codes ≡ length codes / 4 + 1 + (word_size n + w * n) = needed_is codes w n c.requires.w_value.0 c.requires.w_value.1 in
     let fits : (c.loop-m.done ≤ n) × (w * c.loop-m.done ≤ w * n) = done-fits codes old w limit n c.requires.w_value.0 c.loop-m.invariant.0 c.requires.w_value.1 c.requires.codes_bound.1
-      c.loop-m.out c.loop-m.next c.loop-m.done c.loop-m.m going in
+    c.loop-m.out c.loop-m.next c.loop-m.done c.loop-m.m going in
     record { fits = omega (arith, fits, needed, c.requires.codes_bound) }
 
 pub overflow_add-entries-in-loop-m : goal.overflow_add-entries-in-loop-m
-overflow_add-entries-in-loop-m c = 
+overflow_add-entries-in-loop-m c =
     let codes : List ℕ = c.args.codes.now in
     let old : List ℕ = c.args.out.now in
     let w : ℕ = c.args.w in
@@ -89,11 +92,11 @@ overflow_add-entries-in-loop-m c =
     let going : Going codes old w limit n c.loop-m.out c.loop-m.next c.loop-m.done c.loop-m.m = c.loop-m.invariant.3 in
     let needed : bytes_needed codes ≡ length codes / 4 + 1 + (word_size n + w * n) = needed_is codes w n c.requires.w_value.0 c.requires.w_value.1 in
     let fits : (c.loop-m.done ≤ n) × (w * c.loop-m.done ≤ w * n) = done-fits codes old w limit n c.requires.w_value.0 c.loop-m.invariant.0 c.requires.w_value.1 c.requires.codes_bound.1
-      c.loop-m.out c.loop-m.next c.loop-m.done c.loop-m.m going in
+    c.loop-m.out c.loop-m.next c.loop-m.done c.loop-m.m going in
     record { fits = omega (arith, fits, needed, c.requires.codes_bound) }
 
 pub put_block-reached-requires : goal.put_block-reached-requires
-put_block-reached-requires c = 
+put_block-reached-requires c =
     let codes : List ℕ = c.args.codes.now in
     let old : List ℕ = c.args.out.now in
     let w : ℕ = c.args.w in
@@ -102,17 +105,17 @@ put_block-reached-requires c =
     let going : Going codes old w limit n c.loop-m.out c.loop-m.next c.loop-m.done c.loop-m.m = c.loop-m.invariant.3 in
     let either : (w ≡ 4) ⊎ (w ≡ 8) = subst (λ (x : ℕ). (x ≡ 4) ⊎ (x ≡ 8)) (sym c.requires.w_value.0) (width_is (length codes)) in
     let places : length codes ≤ 2 ^ (6 * w) = let h : length codes ≤ 8589934592 = omega (arith, c.requires.w_value.2) in
-      let e : w ≡ width_of (length codes) = c.requires.w_value.0 in
-      subst (λ (x : ℕ). length codes ≤ 2 ^ (6 * x)) (sym e) (places_fit (length codes) h) in
+    let e : w ≡ width_of (length codes) = c.requires.w_value.0 in
+    subst (λ (x : ℕ). length codes ≤ 2 ^ (6 * x)) (sym e) (places_fit (length codes) h) in
     let room : length codes / 4 + 1 + word_size n + w * c.loop-m.done + w * length (pieces_from limit codes c.loop-m.next) ≤ length old = entries_fit codes old w limit n c.requires.w_value.0 c.loop-m.invariant.0 c.requires.w_value.1 c.requires.codes_bound.1
-      c.loop-m.out c.loop-m.next c.loop-m.done c.loop-m.m going in
+    c.loop-m.out c.loop-m.next c.loop-m.done c.loop-m.m going in
     let l = c.loop-m in
     let e = c.block_end-end in
     let top = c.largest_in-largest in
     let g = going in record { from_in_bounds = (g.met.inside, omega (arith, e.ensures), either, l.invariant.0); codes_len_bound = (places, omega (arith, room, g.size, c.write_bytes.auto)); by_index = λ k x y. rw top.ensures (at_most_largest (codes) (4 * l.m) (4 * e.result) k (omega (arith, g.passed)) y) }
 
 pub overflow_add-done : goal.overflow_add-done
-overflow_add-done c = 
+overflow_add-done c =
     let codes : List ℕ = c.args.codes.now in
     let old : List ℕ = c.args.out.now in
     let w : ℕ = c.args.w in
@@ -130,7 +133,7 @@ pub loop-m-smaller : goal.loop-m-smaller
 loop-m-smaller c = let e = c.block_end-end.ensures in omega arith
 
 pub loop-m-preserved : goal.loop-m-preserved
-loop-m-preserved c = 
+loop-m-preserved c =
     let codes : List ℕ = c.args.codes.now in
     let old : List ℕ = c.args.out.now in
     let w : ℕ = c.args.w in
@@ -152,7 +155,7 @@ loop-m-preserved c =
     )
 
 pub bounds-out-whole : goal.bounds-out-whole
-bounds-out-whole c = 
+bounds-out-whole c =
     let codes : List ℕ = c.args.codes.now in
     let old : List ℕ = c.args.out.now in
     let w : ℕ = c.args.w in
@@ -163,7 +166,7 @@ bounds-out-whole c =
     omega (arith, going.size, needed, c.requires.codes_bound)
 
 pub overflow_mul-w-2 : goal.overflow_mul-w-2
-overflow_mul-w-2 c = 
+overflow_mul-w-2 c =
     let codes : List ℕ = c.args.codes.now in
     let old : List ℕ = c.args.out.now in
     let w : ℕ = c.args.w in
@@ -172,11 +175,11 @@ overflow_mul-w-2 c =
     let going : Going codes old w limit n c.loop-m.out c.loop-m.next c.loop-m.done c.loop-m.m = c.loop-m.invariant.3 in
     let needed : bytes_needed codes ≡ length codes / 4 + 1 + (word_size n + w * n) = needed_is codes w n c.requires.w_value.0 c.requires.w_value.1 in
     let fits : (c.loop-m.done ≤ n) × (w * c.loop-m.done ≤ w * n) = done-fits codes old w limit n c.requires.w_value.0 c.loop-m.invariant.0 c.requires.w_value.1 c.requires.codes_bound.1
-      c.loop-m.out c.loop-m.next c.loop-m.done c.loop-m.m going in
+    c.loop-m.out c.loop-m.next c.loop-m.done c.loop-m.m going in
     record { fits = omega (arith, fits, needed, c.requires.codes_bound) }
 
 pub overflow_add-entries-3 : goal.overflow_add-entries-3
-overflow_add-entries-3 c = 
+overflow_add-entries-3 c =
     let codes : List ℕ = c.args.codes.now in
     let old : List ℕ = c.args.out.now in
     let w : ℕ = c.args.w in
@@ -185,11 +188,11 @@ overflow_add-entries-3 c =
     let going : Going codes old w limit n c.loop-m.out c.loop-m.next c.loop-m.done c.loop-m.m = c.loop-m.invariant.3 in
     let needed : bytes_needed codes ≡ length codes / 4 + 1 + (word_size n + w * n) = needed_is codes w n c.requires.w_value.0 c.requires.w_value.1 in
     let fits : (c.loop-m.done ≤ n) × (w * c.loop-m.done ≤ w * n) = done-fits codes old w limit n c.requires.w_value.0 c.loop-m.invariant.0 c.requires.w_value.1 c.requires.codes_bound.1
-      c.loop-m.out c.loop-m.next c.loop-m.done c.loop-m.m going in
+    c.loop-m.out c.loop-m.next c.loop-m.done c.loop-m.m going in
     record { fits = omega (arith, fits, needed, c.requires.codes_bound) }
 
 pub put_pieces-requires : goal.put_pieces-requires
-put_pieces-requires c = 
+put_pieces-requires c =
     let codes : List ℕ = c.args.codes.now in
     let old : List ℕ = c.args.out.now in
     let w : ℕ = c.args.w in
@@ -198,14 +201,14 @@ put_pieces-requires c =
     let going : Going codes old w limit n c.loop-m.out c.loop-m.next c.loop-m.done c.loop-m.m = c.loop-m.invariant.3 in
     let either : (w ≡ 4) ⊎ (w ≡ 8) = subst (λ (x : ℕ). (x ≡ 4) ⊎ (x ≡ 8)) (sym c.requires.w_value.0) (width_is (length codes)) in
     let places : length codes ≤ 2 ^ (6 * w) = let h : length codes ≤ 8589934592 = omega (arith, c.requires.w_value.2) in
-      let e : w ≡ width_of (length codes) = c.requires.w_value.0 in
-      subst (λ (x : ℕ). length codes ≤ 2 ^ (6 * x)) (sym e) (places_fit (length codes) h) in
+    let e : w ≡ width_of (length codes) = c.requires.w_value.0 in
+    subst (λ (x : ℕ). length codes ≤ 2 ^ (6 * x)) (sym e) (places_fit (length codes) h) in
     let room : length codes / 4 + 1 + word_size n + w * c.loop-m.done + w * length (pieces_from limit codes c.loop-m.next) ≤ length old = entries_fit codes old w limit n c.requires.w_value.0 c.loop-m.invariant.0 c.requires.w_value.1 c.requires.codes_bound.1
-      c.loop-m.out c.loop-m.next c.loop-m.done c.loop-m.m going in
+    c.loop-m.out c.loop-m.next c.loop-m.done c.loop-m.m going in
     let g = going in record { from_in_bounds = (g.met.inside, omega arith, either, c.loop-m.invariant.0); codes_len_bound = (places, simp length-set (omega (arith, room, g.size))) }
 
 pub put_word-requires : goal.put_word-requires
-put_word-requires c = 
+put_word-requires c =
     let codes : List ℕ = c.args.codes.now in
     let old : List ℕ = c.args.out.now in
     let w : ℕ = c.args.w in
@@ -221,7 +224,7 @@ put_word-requires c =
     (either, omega (arith, needed, c.requires.codes_bound), omega (arith, needed, c.requires.codes_bound, c.put_pieces.auto, going.size))
 
 pub shape_of-out : goal.shape_of-out
-shape_of-out c = 
+shape_of-out c =
     let codes : List ℕ = c.args.codes.now in
     let old : List ℕ = c.args.out.now in
     let w : ℕ = c.args.w in
@@ -234,7 +237,7 @@ shape_of-out c =
     omega (arith, c.put_word.auto, c.put_pieces.auto, going.size)
 
 pub returns : goal.returns
-returns c = 
+returns c =
     let codes : List ℕ = c.args.codes.now in
     let old : List ℕ = c.args.out.now in
     let w : ℕ = c.args.w in

@@ -28,7 +28,7 @@ pub loop-done-init : goal.loop-done-init
 loop-done-init c = (omega arith, refl, refl, omega arith, refl)
 
 pub returns-in-Refused : goal.returns-in-Refused
-returns-in-Refused c = 
+returns-in-Refused c =
     let index : List ℕ = c.args.index.now in
     let sequence : List ℕ = c.args.sequence.now in
     let numbers : List ℕ = c.args.numbers.now in
@@ -36,9 +36,9 @@ returns-in-Refused c =
     let number : ℕ = get_or numbers p.done 0 in
     let answered : item_answer index sequence number p ≡ c.decode.result = lent_answer index sequence number p c.loop-done.invariant.0 _ c.decode.ensures.value in
     let after-fetch : take p.filled p.output ++ (c.decode.new.out ++ drop (length p.output - p.filled) (left p))
-      ≡ item_output index sequence number p = lent_output index sequence number p c.loop-done.invariant.0 c.decode.new.out c.decode.ensures.out_after in
+    ≡ item_output index sequence number p = lent_output index sequence number p c.loop-done.invariant.0 c.decode.new.out c.decode.ensures.out_after in
     let stopped-at : (r : Refusal) → (e : c.decode.result ≡ Refused r) → fetch_all index sequence numbers (begun c.args.out.now c.args.ends.now)
-      ≡ stopped r p = λ (r : Refusal). λ (e : c.decode.result ≡ Refused r). c.loop-done.invariant.4 ∙ list_stops index sequence numbers p.done c.loop-done-test.true p r (answered ∙ e) in
+    ≡ stopped r p = λ (r : Refusal). λ (e : c.decode.result ≡ Refused r). c.loop-done.invariant.4 ∙ list_stops index sequence numbers p.done c.loop-done-test.true p r (answered ∙ e) in
     let r = c.in-Refused.refusal in
     let e = c.in-Refused.is in
     let x = same_parts _ _ (sym (stopped-at r e)) in
@@ -54,7 +54,7 @@ overflow_add-filled c =
     omega arith
 
 pub loop-done-preserved : goal.loop-done-preserved
-loop-done-preserved c = 
+loop-done-preserved c =
     let index : List ℕ = c.args.index.now in
     let sequence : List ℕ = c.args.sequence.now in
     let numbers : List ℕ = c.args.numbers.now in
@@ -62,7 +62,7 @@ loop-done-preserved c =
     let number : ℕ = get_or numbers p.done 0 in
     let answered : item_answer index sequence number p ≡ c.decode.result = lent_answer index sequence number p c.loop-done.invariant.0 _ c.decode.ensures.value in
     let after-fetch : take p.filled p.output ++ (c.decode.new.out ++ drop (length p.output - p.filled) (left p))
-      ≡ item_output index sequence number p = lent_output index sequence number p c.loop-done.invariant.0 c.decode.new.out c.decode.ensures.out_after in
+    ≡ item_output index sequence number p = lent_output index sequence number p c.loop-done.invariant.0 c.decode.new.out c.decode.ensures.out_after in
     let l = c.in-Decoded.l in
     let e = c.in-Decoded.is in
     let q = p in

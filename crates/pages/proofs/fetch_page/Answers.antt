@@ -7,7 +7,7 @@ use borrow.Author.Rules.{rules}
 use Rattle.pages.proofs.fetch_page.Goals as goal
 
 pub returns-then-index-gt-MOST_BYTES : goal.returns-then-index-gt-MOST_BYTES
-returns-then-index-gt-MOST_BYTES c = 
+returns-then-index-gt-MOST_BYTES c =
     let index : List ℕ = c.args.index.now in
     let sequence : List ℕ = c.args.sequence.now in
     let numbers : List ℕ = c.args.numbers.now in
@@ -16,7 +16,7 @@ returns-then-index-gt-MOST_BYTES c =
     let the-pair = same_parts _ _ (index_large (index) (sequence) (numbers) (output) (ends) c.if-index-gt-MOST_BYTES.true) in record { answer = the-pair.0; output = the-pair.1.0; ends = the-pair.1.1 }
 
 pub returns-then-sequence-gt-MOST_BYTES : goal.returns-then-sequence-gt-MOST_BYTES
-returns-then-sequence-gt-MOST_BYTES c = 
+returns-then-sequence-gt-MOST_BYTES c =
     let index : List ℕ = c.args.index.now in
     let sequence : List ℕ = c.args.sequence.now in
     let numbers : List ℕ = c.args.numbers.now in
@@ -25,7 +25,7 @@ returns-then-sequence-gt-MOST_BYTES c =
     let the-pair = same_parts _ _ (sequence_large (index) (sequence) (numbers) (output) (ends) c.if-index-gt-MOST_BYTES.false c.if-sequence-gt-MOST_BYTES.true) in record { answer = the-pair.0; output = the-pair.1.0; ends = the-pair.1.1 }
 
 pub returns-then-ends-numbers : goal.returns-then-ends-numbers
-returns-then-ends-numbers c = 
+returns-then-ends-numbers c =
     let index : List ℕ = c.args.index.now in
     let sequence : List ℕ = c.args.sequence.now in
     let numbers : List ℕ = c.args.numbers.now in
@@ -35,7 +35,7 @@ returns-then-ends-numbers c =
     (ends-short (index) (sequence) (numbers) (output) (ends) c.if-index-gt-MOST_BYTES.false c.if-sequence-gt-MOST_BYTES.false c.if-ends-numbers.true) in record { answer = the-pair.0; output = the-pair.1.0; ends = the-pair.1.1 }
 
 pub returns : goal.returns
-returns c = 
+returns c =
     let index : List ℕ = c.args.index.now in
     let sequence : List ℕ = c.args.sequence.now in
     let numbers : List ℕ = c.args.numbers.now in

@@ -18,7 +18,7 @@ pub overflow_add-count : goal.overflow_add-count
 overflow_add-count c = omega arith
 
 pub returns-then-left-size : goal.returns-then-left-size
-returns-then-left-size c = 
+returns-then-left-size c =
     let taken : let a = c.args in
     c.encode-next.result.size ≡ size a.alphabet (drop c.loop-alphabet.at a.codes.now) = size_is _ c.args.codes.now c.loop-alphabet.at _ c.encode-next.ensures.size in
     let l = c.loop-alphabet in count-ends _ _ l.at _ (taken) l.count l.invariant.2 c.if-left-size.true
@@ -27,7 +27,7 @@ pub overflow_add-at : goal.overflow_add-at
 overflow_add-at c = omega arith
 
 pub loop-alphabet-smaller : goal.loop-alphabet-smaller
-loop-alphabet-smaller c = 
+loop-alphabet-smaller c =
     let taken : let a = c.args in
     c.encode-next.result.size ≡ size a.alphabet (drop c.loop-alphabet.at a.codes.now) = size_is _ c.args.codes.now c.loop-alphabet.at _ c.encode-next.ensures.size in
     let some : (h : let a = c.args in
@@ -38,7 +38,7 @@ loop-alphabet-smaller c =
     omega (arith, taken, some c.if-left-size.false)
 
 pub loop-alphabet-preserved : goal.loop-alphabet-preserved
-loop-alphabet-preserved c = 
+loop-alphabet-preserved c =
     let taken : let a = c.args in
     c.encode-next.result.size ≡ size a.alphabet (drop c.loop-alphabet.at a.codes.now) = size_is _ c.args.codes.now c.loop-alphabet.at _ c.encode-next.ensures.size in
     let some : (h : let a = c.args in

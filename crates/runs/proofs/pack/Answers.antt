@@ -30,5 +30,8 @@ returns-in-Passed c = let a = c.args in
     let room = length a.buffer.now in
     let check = c.check_pack in
     let m = check_passed a.alphabet cs room a.place.0 check.result check.ensures c.in-Passed.is in
-    let e = pack_done a.alphabet cs room a.place.0 m in record { answer = ap (λ (n : ℕ). Packed n (length cs)) c.write_run-count.ensures.count ∙ sym e; packets = c.write_run-count.ensures.packets ∙ sym (packets_written a.alphabet cs a.buffer.now a.place.0
-          (length (run a.alphabet cs)) (length cs) e) }
+    let e = pack_done a.alphabet cs room a.place.0 m in record {
+      answer = ap (λ (n : ℕ). Packed n (length cs)) c.write_run-count.ensures.count ∙ sym e;
+      packets = c.write_run-count.ensures.packets ∙ sym (packets_written a.alphabet cs a.buffer.now a.place.0
+          (length (run a.alphabet cs)) (length cs) e);
+    }

@@ -22,7 +22,7 @@ returns-then-inner_faults-ne0 c = let a = c.args in
     found_broken a.alphabet a.source.now (length a.source.now - 1) (omega arith) (sym f.ensures ∙ ne_eqb f.result 0 c.if-inner_faults-ne0.true)
 
 pub returns-then-not-is_last : goal.returns-then-not-is_last
-returns-then-not-is_last c = 
+returns-then-not-is_last c =
     let packets : List ℕ = c.args.source.now in
     let no-fault : let s = c in inner_to c.args.alphabet (packets) (length (packets) - 1) ≡ true = let f = c.inner_faults in sym f.ensures ∙ eq-eqb f.result 0 c.if-inner_faults-ne0.false in
     found_open c.args.alphabet (packets) (length (packets) - 1) (omega arith) (no-fault) _ refl _
@@ -33,7 +33,7 @@ pub count_codes-before-requires : goal.count_codes-before-requires
 count_codes-before-requires c = (omega arith, omega (arith, c.requires))
 
 pub overflow_add-result : goal.overflow_add-result
-overflow_add-result c = 
+overflow_add-result c =
     let packets : List ℕ = c.args.source.now in
     let no-fault : let s = c in inner_to c.args.alphabet (packets) (length (packets) - 1) ≡ true = let f = c.inner_faults in sym f.ensures ∙ eq-eqb f.result 0 c.if-inner_faults-ne0.false in
     let m = c.count_codes-before in
@@ -46,7 +46,7 @@ overflow_add-result c =
     )
 
 pub returns : goal.returns
-returns c = 
+returns c =
     let packets : List ℕ = c.args.source.now in
     let no-fault : let s = c in inner_to c.args.alphabet (packets) (length (packets) - 1) ≡ true = let f = c.inner_faults in sym f.ensures ∙ eq-eqb f.result 0 c.if-inner_faults-ne0.false in
     found_run c.args.alphabet (packets) (length (packets) - 1) (omega arith) (no-fault) _ refl

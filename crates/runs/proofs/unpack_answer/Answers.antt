@@ -20,14 +20,14 @@ pub returns-then-source-gt-MOST_PACKETS : goal.returns-then-source-gt-MOST_PACKE
 returns-then-source-gt-MOST_PACKETS c = sym (unpack_large _ _ _ c.if-source-gt-MOST_PACKETS.true)
 
 pub returns-then-not-is_alphabet : goal.returns-then-not-is_alphabet
-returns-then-not-is_alphabet c = 
+returns-then-not-is_alphabet c =
     let large-not : let a = c.args in unpack_answer a.alphabet a.source.now a.room ≡ RunAnswer a.alphabet
     a.source.now a.room = unpack_as _ _ _ c.if-source-gt-MOST_PACKETS.false in
     sym (large-not ∙ run_wrong c.args.alphabet _ _
     (sym c.is_alphabet.ensures ∙ c.if-not-is_alphabet.true))
 
 pub returns-in_default : goal.returns-in_default
-returns-in_default c = 
+returns-in_default c =
     let large-not : let a = c.args in unpack_answer a.alphabet a.source.now a.room ≡ RunAnswer a.alphabet
     a.source.now a.room = unpack_as _ _ _ c.if-source-gt-MOST_PACKETS.false in
     let known : is_alphabet c.args.alphabet ≡ true = sym c.is_alphabet.ensures ∙ c.if-not-is_alphabet.false in
@@ -36,7 +36,7 @@ returns-in_default c =
     (read-not _ _ r.result r.ensures c.in_default.is))
 
 pub returns-then-room-total : goal.returns-then-room-total
-returns-then-room-total c = 
+returns-then-room-total c =
     let large-not : let a = c.args in unpack_answer a.alphabet a.source.now a.room ≡ RunAnswer a.alphabet
     a.source.now a.room = unpack_as _ _ _ c.if-source-gt-MOST_PACKETS.false in
     let known : is_alphabet c.args.alphabet ≡ true = sym c.is_alphabet.ensures ∙ c.if-not-is_alphabet.false in
@@ -48,7 +48,7 @@ returns-then-room-total c =
     f.0 (omega arith))
 
 pub returns : goal.returns
-returns c = 
+returns c =
     let large-not : let a = c.args in unpack_answer a.alphabet a.source.now a.room ≡ RunAnswer a.alphabet
     a.source.now a.room = unpack_as _ _ _ c.if-source-gt-MOST_PACKETS.false in
     let known : is_alphabet c.args.alphabet ≡ true = sym c.is_alphabet.ensures ∙ c.if-not-is_alphabet.false in

@@ -24,42 +24,42 @@ loop-alphabet-init c = (
 )
 
 pub overflow_add-buffer : goal.overflow_add-buffer
-overflow_add-buffer c = 
+overflow_add-buffer c =
     let codes : List ℕ = c.args.codes.now in
     let whole : List ℕ = run c.args.alphabet (codes) in
     let room : c.args.place.0 + c.loop-alphabet.count < length c.args.buffer.now = omega (
-        arith,
-        c.requires.1,
-        length-drop c.loop-alphabet.count (whole),
-        ap length c.loop-alphabet.invariant.4,
-        run-some c.args.alphabet (drop c.loop-alphabet.at (codes)),
-      ) in
+      arith,
+      c.requires.1,
+      length-drop c.loop-alphabet.count (whole),
+      ap length c.loop-alphabet.invariant.4,
+      run-some c.args.alphabet (drop c.loop-alphabet.at (codes)),
+    ) in
     omega (arith, room)
 
 pub offset_bounds-buffer-first : goal.offset_bounds-buffer-first
-offset_bounds-buffer-first c = 
+offset_bounds-buffer-first c =
     let codes : List ℕ = c.args.codes.now in
     let whole : List ℕ = run c.args.alphabet (codes) in
     let room : c.args.place.0 + c.loop-alphabet.count < length c.args.buffer.now = omega (
-        arith,
-        c.requires.1,
-        length-drop c.loop-alphabet.count (whole),
-        ap length c.loop-alphabet.invariant.4,
-        run-some c.args.alphabet (drop c.loop-alphabet.at (codes)),
-      ) in
+      arith,
+      c.requires.1,
+      length-drop c.loop-alphabet.count (whole),
+      ap length c.loop-alphabet.invariant.4,
+      run-some c.args.alphabet (drop c.loop-alphabet.at (codes)),
+    ) in
     omega (arith, room, c.loop-alphabet.invariant.2)
 
 pub bounds-buffer-first : goal.bounds-buffer-first
-bounds-buffer-first c = 
+bounds-buffer-first c =
     let codes : List ℕ = c.args.codes.now in
     let whole : List ℕ = run c.args.alphabet (codes) in
     let room : c.args.place.0 + c.loop-alphabet.count < length c.args.buffer.now = omega (
-        arith,
-        c.requires.1,
-        length-drop c.loop-alphabet.count (whole),
-        ap length c.loop-alphabet.invariant.4,
-        run-some c.args.alphabet (drop c.loop-alphabet.at (codes)),
-      ) in
+      arith,
+      c.requires.1,
+      length-drop c.loop-alphabet.count (whole),
+      ap length c.loop-alphabet.invariant.4,
+      run-some c.args.alphabet (drop c.loop-alphabet.at (codes)),
+    ) in
     omega (arith, room, c.loop-alphabet.invariant.2)
 
 pub overflow_add-count : goal.overflow_add-count
@@ -69,7 +69,7 @@ pub shape_of-buffer-then-left-size : goal.shape_of-buffer-then-left-size
 shape_of-buffer-then-left-size c = simp length-set c.loop-alphabet.invariant.2
 
 pub returns-then-left-size : goal.returns-then-left-size
-returns-then-left-size c = 
+returns-then-left-size c =
     let codes : List ℕ = c.args.codes.now in
     let whole : List ℕ = run c.args.alphabet (codes) in
     let taken : c.encode-next.result.size ≡ size c.args.alphabet (drop c.loop-alphabet.at (codes)) = size_is c.args.alphabet (codes) c.loop-alphabet.at _ c.encode-next.ensures.size in
@@ -82,14 +82,14 @@ pub overflow_add-at : goal.overflow_add-at
 overflow_add-at c = omega arith
 
 pub loop-alphabet-smaller : goal.loop-alphabet-smaller
-loop-alphabet-smaller c = 
+loop-alphabet-smaller c =
     let codes : List ℕ = c.args.codes.now in
     let taken : c.encode-next.result.size ≡ size c.args.alphabet (drop c.loop-alphabet.at (codes)) = size_is c.args.alphabet (codes) c.loop-alphabet.at _ c.encode-next.ensures.size in
     let some : (h : c.loop-alphabet.at < length (codes)) → 0 < c.encode-next.result.size = λ (h : c.loop-alphabet.at < length (codes)). rw taken (size-some _ (drop c.loop-alphabet.at (codes)) (omega (arith, length-drop c.loop-alphabet.at (codes)))) in
     omega (arith, some (omega arith))
 
 pub loop-alphabet-preserved : goal.loop-alphabet-preserved
-loop-alphabet-preserved c = 
+loop-alphabet-preserved c =
     let codes : List ℕ = c.args.codes.now in
     let whole : List ℕ = run c.args.alphabet (codes) in
     let taken : c.encode-next.result.size ≡ size c.args.alphabet (drop c.loop-alphabet.at (codes)) = size_is c.args.alphabet (codes) c.loop-alphabet.at _ c.encode-next.ensures.size in

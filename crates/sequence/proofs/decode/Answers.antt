@@ -7,7 +7,7 @@ use borrow.Author.Rules.{rules}
 use Rattle.sequence.proofs.decode.Goals as goal
 
 pub returns-then-sequence-gt-MOST_BYTES : goal.returns-then-sequence-gt-MOST_BYTES
-returns-then-sequence-gt-MOST_BYTES c = 
+returns-then-sequence-gt-MOST_BYTES c =
     let index = c.args.index.now in
     let s = c.args.sequence.now in
     let o = c.args.out.now in
@@ -15,14 +15,14 @@ returns-then-sequence-gt-MOST_BYTES c =
     record { value = a; out_after = output_by index s c.args.number o _ a }
 
 pub decode_own-requires : goal.decode_own-requires
-decode_own-requires c = 
+decode_own-requires c =
     let a = c.args in
     let if1 = c.if-sequence-gt-MOST_BYTES in
     let g = sym c.read_index.ensures ∙ c.in-Read.is in
     ((index_read a.index.now _ g).1, if1.false)
 
 pub returns-in-Refused : goal.returns-in-Refused
-returns-in-Refused c = 
+returns-in-Refused c =
     let a' = c.args in
     let if1 = c.if-sequence-gt-MOST_BYTES in
     let index = a'.index.now in
@@ -33,7 +33,7 @@ returns-in-Refused c =
     record { value = a; out_after = output_by index s a'.number o _ a }
 
 pub returns-in-Read : goal.returns-in-Read
-returns-in-Read c = 
+returns-in-Read c =
     let a' = c.args in
     let if1 = c.if-sequence-gt-MOST_BYTES in
     let read-index = c.read_index in

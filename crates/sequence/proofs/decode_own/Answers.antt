@@ -16,21 +16,21 @@ use borrow.Author.Rules.{rules}
 use Rattle.sequence.proofs.decode_own.Goals as goal
 
 pub returns-then-x-number : goal.returns-then-x-number
-returns-then-x-number c = 
+returns-then-x-number c =
     let a = c.args in
     let n = numbers_of a.index.now a.x c.requires.0 in
     let h : sequences a.index.now ≤ a.number = omega (arith, c.if-x-number.true, n.sequences_are) in
     record { value = own_none a.index.now a.sequence.now a.number (length a.out.now) h; out_after = refl }
 
 pub protein_entry-requires : goal.protein_entry-requires
-protein_entry-requires c = 
+protein_entry-requires c =
     let p = c.requires in
     let a = c.args in
     let n = numbers_of a.index.now a.x p.0 in
     (p.0, omega (arith, c.if-x-number.false, n.sequences_are, (tables_near a.index.now).number))
 
 pub returns-then-x-eq1 : goal.returns-then-x-eq1
-returns-then-x-eq1 c = 
+returns-then-x-eq1 c =
     let a = c.args in
     let n = numbers_of a.index.now a.x c.requires.0 in
     let h : a.number < sequences a.index.now = omega (arith, c.if-x-number.false, n.sequences_are) in
@@ -39,20 +39,20 @@ returns-then-x-eq1 c =
     let codes = placed_protein_lem a.index.now a.sequence.now a.number k _ e in record { value = c.decode_protein.ensures.value ∙ own_placed_protein a.index.now a.sequence.now a.number (length a.out.now) h k _ e; out_after = c.decode_protein.ensures.out_after ∙ ap (λ (x : List ℕ). written_by c.decode_protein.result x a.out.now) codes }
 
 pub overflow_mul-i : goal.overflow_mul-i
-overflow_mul-i c = 
+overflow_mul-i c =
     let a = c.args in
     let n = numbers_of a.index.now a.x c.requires.0 in
     omega (arith, c.if-x-number.false, n.sequences_are, (tables_near a.index.now).number)
 
 pub overflow_add-table : goal.overflow_add-table
-overflow_add-table c = 
+overflow_add-table c =
     let a = c.args in
     let n = numbers_of a.index.now a.x c.requires.0 in
     let t = tables_near a.index.now in
     omega (arith, c.if-x-number.false, n.sequences_are, t.number, n.table_is, t.sequences_near)
 
 pub returns-then-not-not_negative_at : goal.returns-then-not-not_negative_at
-returns-then-not-not_negative_at c = 
+returns-then-not-not_negative_at c =
     let a = c.args in
     let n = numbers_of a.index.now a.x c.requires.0 in
     let h : a.number < sequences a.index.now = omega (arith, c.if-x-number.false, n.sequences_are) in
@@ -61,7 +61,7 @@ returns-then-not-not_negative_at c =
     record { value = own_negative a.index.now a.sequence.now a.number (length a.out.now) h k s; out_after = refl }
 
 pub dna_entry-requires : goal.dna_entry-requires
-dna_entry-requires c = 
+dna_entry-requires c =
     let p = c.requires in
     let if1 = c.if-x-number in
     let a = c.args in
@@ -72,7 +72,7 @@ pub decode_dna-requires : goal.decode_dna-requires
 decode_dna-requires c = c.requires.1
 
 pub returns : goal.returns
-returns c = 
+returns c =
     let p = c.requires in
     let if1 = c.if-x-number in
     let not-negative-at = c.not_negative_at in

@@ -5,11 +5,11 @@ use borrow.Author.Rules.{rules}
 use Rattle.timing.proofs.gull_time_decode.Goals as goal
 
 pub returns-in-Refused : goal.returns-in-Refused
-returns-in-Refused c = 
+returns-in-Refused c =
     let told = c.decode.ensures in
     record { number = c.number.ensures ∙ ap decode_number (sym c.in-Refused.is ∙ told.value); output = told.out_after }
 
 pub returns-in-Decoded : goal.returns-in-Decoded
-returns-in-Decoded c = 
+returns-in-Decoded c =
     let told = c.decode.ensures in
     record { number = ap decode_number (sym c.in-Decoded.is ∙ told.value); output = told.out_after }

@@ -13,7 +13,7 @@ use Rattle.volume.proofs.check_rules.Goals as goal
 
 pub returns-in-Refused : goal.returns-in-Refused
 unfolding volume_rules
-returns-in-Refused c = 
+returns-in-Refused c =
     let index = c.args.index.now in
     let sequence = c.args.sequence.now in
     let header = c.args.header.now in
@@ -23,7 +23,7 @@ returns-in-Refused c =
 
 pub returns-in-Refused-read_index : goal.returns-in-Refused-read_index
 unfolding volume_rules
-returns-in-Refused-read_index c = 
+returns-in-Refused-read_index c =
     let index = c.args.index.now in
     let sequence = c.args.sequence.now in
     let header = c.args.header.now in
@@ -37,14 +37,14 @@ returns-in-Refused-read_index c =
     ∙ index_refused index Refused Passed more _ (sym c.read_index.ensures ∙ c.in-Refused-read_index.is))
 
 pub check_contents-requires : goal.check_contents-requires
-check_contents-requires c = 
+check_contents-requires c =
     let index = c.args.index.now in
     let h = (index_read index _ (sym c.read_index.ensures ∙ c.in_default-read_index.is)).0.1 in
     (few-sequences index h, whole_tables index h)
 
 pub returns : goal.returns
 unfolding volume_rules
-returns c = 
+returns c =
     let index = c.args.index.now in
     let sequence = c.args.sequence.now in
     let header = c.args.header.now in

@@ -8,7 +8,7 @@ use Rattle.volume.proofs.check_volume.Goals as goal
 
 pub returns-in-Refused : goal.returns-in-Refused
 unfolding volume_answer
-returns-in-Refused c = 
+returns-in-Refused c =
     let a = c.args in
     let check-rules = c.check_rules in
     let index = a.index.now in
@@ -17,7 +17,7 @@ returns-in-Refused c =
 
 pub returns : goal.returns
 unfolding volume_answer volume_record
-returns c = 
+returns c =
     let a = c.args in
     let check-rules = c.check_rules in
     let told = c.in_default in

@@ -14,13 +14,13 @@ pub check_index-requires : goal.check_index-requires
 check_index-requires c = c.numbers-x.ensures
 
 pub returns-in-Refused : goal.returns-in-Refused
-returns-in-Refused c = 
+returns-in-Refused c =
     let index = c.args.index.now in
     rw (le-leb _ _ c.if-index-gt-MOST_BYTES.false)
     (sym (refused-alone (index_rules index) _ c.check_index.ensures Refused (Read (index_of index)) _ c.in-Refused.is))
 
 pub returns : goal.returns
-returns c = 
+returns c =
     let index = c.args.index.now in
     rw (le-leb _ _ c.if-index-gt-MOST_BYTES.false, c.numbers-x.ensures)
     (sym (passed_alone (index_rules index) _ c.check_index.ensures Refused (Read (index_of index)) c.in_default.is))

@@ -21,7 +21,7 @@ returns-then-sequence_count-number c = let a = c.args in
 
 pub returns-then-is_protein : goal.returns-then-is_protein
 unfolding length_of_number
-returns-then-is_protein c = 
+returns-then-is_protein c =
     let index : List ℕ = c.args.index.now in
     let number : ℕ = c.args.number in
     let below : ltb (number) (sequences (index)) ≡ true = lt-ltb _ _ (let h : number < sequences (index) = omega arith in h) in
@@ -32,7 +32,7 @@ returns-then-is_protein c =
 
 pub returns : goal.returns
 unfolding length_of_number
-returns c = 
+returns c =
     let index : List ℕ = c.args.index.now in
     let number : ℕ = c.args.number in
     let below : ltb (number) (sequences (index)) ≡ true = lt-ltb _ _ (let h : number < sequences (index) = omega arith in h) in

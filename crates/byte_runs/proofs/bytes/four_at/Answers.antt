@@ -6,6 +6,6 @@ use borrow.Author.Rules.{rules}
 use Rattle.byte_runs.proofs.bytes.four_at.Goals as goal
 
 pub returns : goal.returns
-returns c = 
+returns c =
     let a = c.args in
     record { value = c.word.ensures.value; bytes = c.word.ensures.bytes ∙ four_read a.bytes.now a.at 0 (rw add-zero) refl refl refl }

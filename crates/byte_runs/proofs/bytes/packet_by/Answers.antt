@@ -5,5 +5,5 @@ use borrow.Author.Rules.{rules}
 use Rattle.byte_runs.proofs.bytes.packet_by.Goals as goal
 
 pub returns : goal.returns
-returns c = 
+returns c =
     c.number_by.ensures ∙ word_packet c.args.order c.args.bytes.now c.args.place.0 _ c.requires c.word_at.ensures

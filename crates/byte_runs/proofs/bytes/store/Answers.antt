@@ -12,13 +12,13 @@ use borrow.Author.Rules.{rules}
 use Rattle.byte_runs.proofs.bytes.store.Goals as goal
 
 pub loop-j-init : goal.loop-j-init
-loop-j-init c = 
+loop-j-init c =
     let a = c.args in
     let e : a.count - 0 ≡ a.count = omega arith in
     (omega arith, refl, paste-zero a.out.now a.at (little_bytes a.count a.n), rw e)
 
 pub loop-j-preserved : goal.loop-j-preserved
-loop-j-preserved c = 
+loop-j-preserved c =
     let l = c.loop-j in
     let a = c.args in
     let j = l.j in
@@ -32,7 +32,7 @@ loop-j-preserved c =
     )
 
 pub returns : goal.returns
-returns c = 
+returns c =
     let l = c.loop-j in
     let a = c.args in
     let e : l.j ≡ length (little_bytes a.count a.n) = omega (arith, length-little a.count a.n) in

@@ -9,7 +9,7 @@ use borrow.Author.Rules.{rules}
 use Rattle.byte_runs.proofs.bytes.word_at.Goals as goal
 
 pub returns : goal.returns
-returns c = 
+returns c =
     let s = c.args.bytes.now in
     c.four_at.ensures.bytes
     ∙ ap (λ (n : ℕ). bytes_at 4 s n 0) (c.byte_of-from.ensures ∙ byte_is c.args.place.0 (length s) c.requires (omega arith))

@@ -24,7 +24,7 @@ loop-i-preserved c = (
 )
 
 pub returns : goal.returns
-returns c = 
+returns c =
     let l = c.loop-i in
     let n : l.i ≡ 16 = omega arith in
     parts_whole (λ next. five_bit_part next) 6 c.args.codes.now 16 l.i _ l.packets l.invariant.3 n l.invariant.1

@@ -16,7 +16,7 @@ pub loop-i-init : goal.loop-i-init
 loop-i-init c = (omega arith, refl, refl, parts_none (λ next. two_bit_part next) 15 c.args.codes.now _)
 
 pub two_packet-requires : goal.two_packet-requires
-two_packet-requires c = 
+two_packet-requires c =
     let cs = c.args.codes.now in (
       omega (arith, plain-long 240 cs c.requires),
       plain-inside 240 (15 * c.loop-i.i) 15 cs
@@ -24,7 +24,7 @@ two_packet-requires c =
     )
 
 pub loop-i-preserved : goal.loop-i-preserved
-loop-i-preserved c = 
+loop-i-preserved c =
     let l = c.loop-i in (
       omega arith,
       l.invariant.1,
@@ -34,7 +34,7 @@ loop-i-preserved c =
     )
 
 pub returns : goal.returns
-returns c = 
+returns c =
     let l = c.loop-i in
     let n : l.i ≡ 16 = omega arith in
     parts_whole (λ next. two_bit_part next) 15 c.args.codes.now 16 l.i _ l.packets l.invariant.3 n l.invariant.1

@@ -30,9 +30,11 @@ put_packet-requires c = omega (
 )
 
 pub returns : goal.returns
-returns c = record { count = amino_count c.args.codes.now
+returns c = record {
+  count = amino_count c.args.codes.now
       (c.sixes_of-whole.result - 1) (ap (λ (n : ℕ). n - 1)
-      c.sixes_of-whole.ensures); bytes = c.put_packet.ensures ∙ amino_bytes c.args.codes.now
+      c.sixes_of-whole.ensures);
+  bytes = c.put_packet.ensures ∙ amino_bytes c.args.codes.now
       (c.sixes_of-whole.result - 1) (ap (λ (n : ℕ). n - 1)
       c.sixes_of-whole.ensures) c.args.out.now _
       c.encode-next.result.packet c.write_fives.ensures
@@ -41,4 +43,5 @@ returns c = record { count = amino_count c.args.codes.now
       c.encode-next.result.packet
       c.requires.0
       c.encode-next.ensures.packet)
-      c.requires.1 }
+      c.requires.1;
+}

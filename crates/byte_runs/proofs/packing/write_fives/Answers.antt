@@ -22,7 +22,7 @@ loop-i-init c = (
 )
 
 pub sixteen_fives-packets-requires : goal.sixteen_fives-packets-requires
-sixteen_fives-packets-requires c = 
+sixteen_fives-packets-requires c =
     let k = c.block_start-from.result in
     let cs = c.args.codes.now in (
       part_long (6 * k) 96 cs (omega (
@@ -45,7 +45,7 @@ slice_bounds-put_sixteen-start c = omega (
 )
 
 pub put_sixteen-requires : goal.put_sixteen-requires
-put_sixteen-requires c = 
+put_sixteen-requires c =
     let b = c.block_start-from.ensures in
     let s = c.byte_of-start in (
       ap length c.sixteen_fives-packets.ensures ∙ length_parts (λ next. five_bit_part next) 6 _ 16,
@@ -68,7 +68,7 @@ loop-i-smaller c = block_less c.loop-i.i
     c.loop-i.invariant.1
 
 pub loop-i-preserved : goal.loop-i-preserved
-loop-i-preserved c = 
+loop-i-preserved c =
     let a = c.args in
     let l = c.loop-i in
     let k = c.block_start-from.result in
@@ -97,7 +97,7 @@ loop-i-preserved c =
     )
 
 pub returns : goal.returns
-returns c = 
+returns c =
     let R = fives c.args.codes.now c.args.count in
     let n = length_parts (λ next. five_bit_part next) 6 c.args.codes.now
     c.args.count in

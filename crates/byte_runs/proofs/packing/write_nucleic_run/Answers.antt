@@ -14,7 +14,7 @@ use borrow.Author.Rules.{rules}
 use Rattle.byte_runs.proofs.packing.write_nucleic_run.Goals as goal
 
 pub loop-at-init : goal.loop-at-init
-loop-at-init c = 
+loop-at-init c =
     let b = c.write_inner-inner.ensures in
     let n = begun-length c.args.codes.now c.args.out.now _ _ _ b c.requires.1 in
     (b.0, refl, refl, omega (arith, n, b.2, c.requires.1), refl)
@@ -35,7 +35,7 @@ overflow_add-count c = omega (
 )
 
 pub returns-then-left-size : goal.returns-then-left-size
-returns-then-left-size c = 
+returns-then-left-size c =
     let l = c.loop-at in
     let cs = c.args.codes.now in
     let s = c.encode-next.result.size in
@@ -45,18 +45,21 @@ returns-then-left-size c =
     let d = c.args.out.now in
     let f : run 1 (drop l.at cs) ≡ p ∷ [] = run_ends 1 cs l.at s e c.if-left-size.true ∙ ap (λ (x : ℕ). x ∷ []) (sym (packet-is 1 cs l.at p
     c.requires.0
-    c.encode-next.ensures.packet)) in record { count = omega (
+    c.encode-next.ensures.packet)) in record {
+      count = omega (
         arith,
         l.invariant.1,
         ap length f,
         begun-length cs d _ _ _ b
             c.requires.1,
-      ); bytes = c.put_packet.ensures ∙ (ap (λ (x : List ℕ). written_at (4 * l.count) (bytes_of x) l.out) (sym f) ∙
+      );
+      bytes = c.put_packet.ensures ∙ (ap (λ (x : List ℕ). written_at (4 * l.count) (bytes_of x) l.out) (sym f) ∙
           (l.invariant.4 ∙ begun-whole cs d _ _ _ b
-          c.requires.1)) }
+          c.requires.1));
+    }
 
 pub loop-at-smaller : goal.loop-at-smaller
-loop-at-smaller c = 
+loop-at-smaller c =
     let l = c.loop-at in
     let cs = c.args.codes.now in
     let s = c.encode-next.result.size in
@@ -65,7 +68,7 @@ loop-at-smaller c =
     omega (arith, e, size-some 1 (drop l.at cs) (omega (arith, length-drop l.at cs)))
 
 pub loop-at-preserved : goal.loop-at-preserved
-loop-at-preserved c = 
+loop-at-preserved c =
     let l = c.loop-at in
     let cs = c.args.codes.now in
     let s = c.encode-next.result.size in

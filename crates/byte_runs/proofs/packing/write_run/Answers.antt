@@ -23,13 +23,16 @@ write_amino_run-requires c = (
 )
 
 pub returns-then-alphabet-eq3 : goal.returns-then-alphabet-eq3
-returns-then-alphabet-eq3 c = record { count = c.write_amino_run.ensures.count ∙ ap length (ap (λ (x : ℕ). run x c.args.codes.now) (sym c.if-alphabet-eq3.true)); bytes = placed
+returns-then-alphabet-eq3 c = record {
+  count = c.write_amino_run.ensures.count ∙ ap length (ap (λ (x : ℕ). run x c.args.codes.now) (sym c.if-alphabet-eq3.true));
+  bytes = placed
       (run 3 c.args.codes.now) (run
       c.args.alphabet c.args.codes.now) c.args.out.now
       c.args.place.0
       c.byte_of-from.result.0 (ap (λ (x : ℕ). run x c.args.codes.now) (sym c.if-alphabet-eq3.true))
       c.requires.1 c.byte_of-from.ensures _
-      c.write_amino_run.ensures.bytes }
+      c.write_amino_run.ensures.bytes;
+}
 
 pub slice_bounds-write_nucleic_run-start : goal.slice_bounds-write_nucleic_run-start
 slice_bounds-write_nucleic_run-start c = placed_start (run 1 c.args.codes.now) (run
@@ -48,13 +51,16 @@ write_nucleic_run-requires c = (
 )
 
 pub returns : goal.returns
-returns c = record { count = c.write_nucleic_run.ensures.count ∙ ap length (sym (run-same
+returns c = record {
+  count = c.write_nucleic_run.ensures.count ∙ ap length (sym (run-same
       c.args.alphabet (ne_eqb
-      c.args.alphabet 3 c.if-alphabet-eq3.false) c.args.codes.now)); bytes = placed (run 1 c.args.codes.now) (run
+      c.args.alphabet 3 c.if-alphabet-eq3.false) c.args.codes.now));
+  bytes = placed (run 1 c.args.codes.now) (run
       c.args.alphabet c.args.codes.now) c.args.out.now
       c.args.place.0
       c.byte_of-from.result.0 (sym (run-same
       c.args.alphabet (ne_eqb
       c.args.alphabet 3 c.if-alphabet-eq3.false) c.args.codes.now))
       c.requires.1 c.byte_of-from.ensures _
-      c.write_nucleic_run.ensures.bytes }
+      c.write_nucleic_run.ensures.bytes;
+}

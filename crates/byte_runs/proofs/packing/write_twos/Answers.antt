@@ -40,7 +40,7 @@ slice_bounds-put_sixteen-start c = let t = block_told c.args.codes.now
     )
 
 pub put_sixteen-requires : goal.put_sixteen-requires
-put_sixteen-requires c = 
+put_sixteen-requires c =
     let t = block_told c.args.codes.now
     c.loop-packets.n
     c.plain_block.result
@@ -70,7 +70,7 @@ loop-packets-smaller c = let t = block_told c.args.codes.now
     c.loop-packets-test.true in omega (arith, t.0)
 
 pub loop-packets-preserved : goal.loop-packets-preserved
-loop-packets-preserved c = 
+loop-packets-preserved c =
     let a = c.args in
     let l = c.loop-packets in
     let t = block_told c.args.codes.now

@@ -15,7 +15,7 @@ pub packet_by-requires : goal.packet_by-requires
 packet_by-requires c = omega (arith, c.requires.0)
 
 pub overflow_add-fives : goal.overflow_add-fives
-overflow_add-fives c = 
+overflow_add-fives c =
     let l = c.loop-i in
     omega (
       arith,
@@ -26,13 +26,13 @@ overflow_add-fives c =
     )
 
 pub loop-i-preserved : goal.loop-i-preserved
-loop-i-preserved c = 
+loop-i-preserved c =
     let l = c.loop-i in
     let p = c.packet_by in
     (omega arith, five_more (packets_by c.args.order c.args.bytes.now) l.i p.result p.ensures l.fives l.invariant.1)
 
 pub returns : goal.returns
-returns c = 
+returns c =
     let l = c.loop-i in
     let n : l.i ≡ c.args.count = omega arith in
     l.invariant.1 ∙ rw n

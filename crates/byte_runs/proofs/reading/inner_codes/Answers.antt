@@ -7,7 +7,7 @@ use borrow.Author.Rules.{rules}
 use Rattle.byte_runs.proofs.reading.inner_codes.Goals as goal
 
 pub returns-then-alphabet-eq3 : goal.returns-then-alphabet-eq3
-returns-then-alphabet-eq3 c = 
+returns-then-alphabet-eq3 c =
     let a = c.args in
     sym (codes_amino a.alphabet (packets_by a.order a.bytes.now) a.count c.if-alphabet-eq3.true c.requires.count_value)
 
@@ -15,11 +15,11 @@ pub five_bit_packets-requires : goal.five_bit_packets-requires
 five_bit_packets-requires c = c.requires.count_in_bounds
 
 pub overflow_sub-result : goal.overflow_sub-result
-overflow_sub-result c = 
+overflow_sub-result c =
     let a = c.args in
     omega (arith, c.five_bit_packets.ensures, codes-fives (packets_by a.order a.bytes.now) a.count)
 
 pub returns : goal.returns
-returns c = 
+returns c =
     let a = c.args in
     omega (arith, c.five_bit_packets.ensures, codes-fives (packets_by a.order a.bytes.now) a.count)

@@ -17,7 +17,7 @@ pub word_at-requires : goal.word_at-requires
 word_at-requires c = omega (arith, c.requires)
 
 pub loop-i-preserved : goal.loop-i-preserved
-loop-i-preserved c = 
+loop-i-preserved c =
     let a = c.args in
     let l = c.loop-i in
     let p = c.word_at in
@@ -26,7 +26,7 @@ loop-i-preserved c =
     (omega arith, inner-more (packets_by a.order a.bytes.now) l.i _ e a.alphabet l.faults f.result l.invariant.1 f.ensures)
 
 pub returns : goal.returns
-returns c = 
+returns c =
     let l = c.loop-i in
     let n : l.i ≡ c.args.count = omega arith in
     l.invariant.1 ∙ rw n

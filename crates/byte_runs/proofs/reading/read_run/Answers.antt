@@ -25,14 +25,14 @@ pub returns-then-bytes-gt-MOST_BYTES : goal.returns-then-bytes-gt-MOST_BYTES
 returns-then-bytes-gt-MOST_BYTES c = let a = c.args in read-large a.order a.alphabet a.bytes.now c.if-bytes-gt-MOST_BYTES.true
 
 pub returns-then-count-eq0 : goal.returns-then-count-eq0
-returns-then-count-eq0 c = 
+returns-then-count-eq0 c =
     let bytes : List ℕ = c.args.bytes.now in
     let packets : List ℕ = packets_by c.args.order (bytes) in
     let fits : let s = c in run_length c.args.alphabet (packets) ≡ run_in c.args.order c.args.alphabet (bytes) = sym (read_fits _ _ (bytes) c.if-bytes-gt-MOST_BYTES.false) in
     found_none c.args.alphabet (packets) (omega (arith, length-packets c.args.order (bytes))) ∙ fits
 
 pub returns-then-inner_faults-ne0 : goal.returns-then-inner_faults-ne0
-returns-then-inner_faults-ne0 c = 
+returns-then-inner_faults-ne0 c =
     let bytes : List ℕ = c.args.bytes.now in
     let packets : List ℕ = packets_by c.args.order (bytes) in
     let fits : let s = c in run_length c.args.alphabet (packets) ≡ run_in c.args.order c.args.alphabet (bytes) = sym (read_fits _ _ (bytes) c.if-bytes-gt-MOST_BYTES.false) in
@@ -41,7 +41,7 @@ returns-then-inner_faults-ne0 c =
     found_broken _ _ _ (last-is) (sym f.ensures ∙ ne_eqb f.result 0 c.if-inner_faults-ne0.true) ∙ fits
 
 pub returns-then-not-is_last : goal.returns-then-not-is_last
-returns-then-not-is_last c = 
+returns-then-not-is_last c =
     let bytes : List ℕ = c.args.bytes.now in
     let packets : List ℕ = packets_by c.args.order (bytes) in
     let fits : let s = c in run_length c.args.alphabet (packets) ≡ run_in c.args.order c.args.alphabet (bytes) = sym (read_fits _ _ (bytes) c.if-bytes-gt-MOST_BYTES.false) in
@@ -52,14 +52,14 @@ returns-then-not-is_last c =
     ∙ fits
 
 pub inner_codes-before-requires : goal.inner_codes-before-requires
-inner_codes-before-requires c = 
+inner_codes-before-requires c =
     let bytes : List ℕ = c.args.bytes.now in
     let packets : List ℕ = packets_by c.args.order (bytes) in
     let no-fault : let s = c in inner_to c.args.alphabet (packets) (length (bytes) / 4 - 1) ≡ true = let f = c.inner_faults in sym f.ensures ∙ eq-eqb f.result 0 c.if-inner_faults-ne0.false in
     record { count_in_bounds = (omega arith, omega arith); count_value = no-fault }
 
 pub overflow_add-result : goal.overflow_add-result
-overflow_add-result c = 
+overflow_add-result c =
     let bytes : List ℕ = c.args.bytes.now in
     let packets : List ℕ = packets_by c.args.order (bytes) in
     let no-fault : let s = c in inner_to c.args.alphabet (packets) (length (bytes) / 4 - 1) ≡ true = let f = c.inner_faults in sym f.ensures ∙ eq-eqb f.result 0 c.if-inner_faults-ne0.false in
@@ -73,7 +73,7 @@ overflow_add-result c =
     omega (arith, length-packets c.args.order (bytes))
 
 pub returns : goal.returns
-returns c = 
+returns c =
     let bytes : List ℕ = c.args.bytes.now in
     let packets : List ℕ = packets_by c.args.order (bytes) in
     let fits : let s = c in run_length c.args.alphabet (packets) ≡ run_in c.args.order c.args.alphabet (bytes) = sym (read_fits _ _ (bytes) c.if-bytes-gt-MOST_BYTES.false) in

@@ -7,11 +7,11 @@ use borrow.Author.Rules.{rules}
 use Rattle.byte_runs.proofs.unpacking.block_count.Goals as goal
 
 pub returns-then-is_amino : goal.returns-then-is_amino
-returns-then-is_amino c = 
+returns-then-is_amino c =
     let s : spare c.args.alphabet ≡ 0 = rw (sym c.is_amino.ensures ∙ c.if-is_amino.true) in
     omega arith
 
 pub returns : goal.returns
-returns c = 
+returns c =
     let s : spare c.args.alphabet ≡ 2 = rw (sym c.is_amino.ensures ∙ c.if-is_amino.false) in
     omega arith

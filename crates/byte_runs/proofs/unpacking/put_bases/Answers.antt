@@ -21,7 +21,7 @@ pub packet_at-packet-requires : goal.packet_at-packet-requires
 packet_at-packet-requires c = omega (arith, c.requires.in_bounds.0)
 
 pub loop-i-preserved : goal.loop-i-preserved
-loop-i-preserved c = 
+loop-i-preserved c =
     let a = c.args in
     let l = c.loop-i in
     let ps = packets_of a.block.now in
@@ -55,7 +55,7 @@ pub put_four-requires : goal.put_four-requires
 put_four-requires c = omega (arith, c.requires.in_bounds.1, c.loop-j.invariant.1.size)
 
 pub loop-j-preserved : goal.loop-j-preserved
-loop-j-preserved c = 
+loop-j-preserved c =
     let a = c.args in
     let l = c.loop-i in
     let m = c.loop-j in

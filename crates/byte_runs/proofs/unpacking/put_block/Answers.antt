@@ -16,10 +16,11 @@ use borrow.Author.Rules.{rules}
 use Rattle.byte_runs.proofs.unpacking.put_block.Goals as goal
 
 pub put_sixes-requires : goal.put_sixes-requires
-put_sixes-requires c = 
+put_sixes-requires c =
     let a = c.args in
     let ps = packets_of a.block.now in
-    let t : is_amino a.alphabet ≡ true = sym c.is_amino.ensures ∙ c.if-is_amino.true in record { in_bounds = (
+    let t : is_amino a.alphabet ≡ true = sym c.is_amino.ensures ∙ c.if-is_amino.true in record {
+      in_bounds = (
         c.requires.in_bounds.0,
         omega (
           arith,
@@ -27,10 +28,12 @@ put_sixes-requires c =
           fives-count ps 16 16 (c.requires.all_of t)
               (omega arith),
         ),
-      ); all_of = c.requires.all_of t }
+      );
+      all_of = c.requires.all_of t;
+    }
 
 pub overflow_add-result : goal.overflow_add-result
-overflow_add-result c = 
+overflow_add-result c =
     let a = c.args in
     let t : is_amino a.alphabet ≡ true = sym c.is_amino.ensures ∙
     c.if-is_amino.true in
@@ -42,38 +45,47 @@ overflow_add-result c =
     )
 
 pub returns-then-is_amino : goal.returns-then-is_amino
-returns-then-is_amino c = 
+returns-then-is_amino c =
     let a = c.args in
     let ps = packets_of a.block.now in
     let t : is_amino a.alphabet ≡ true = sym c.is_amino.ensures ∙
     c.if-is_amino.true in
-    let n = fives-count ps 16 16 (c.requires.all_of t) (omega arith) in record { behind = omega arith; codes = rw (c.put_sixes.ensures, t)
+    let n = fives-count ps 16 16 (c.requires.all_of t) (omega arith) in record {
+      behind = omega arith;
+      codes = rw (c.put_sixes.ensures, t)
           (begun_written a.place (a.place + 96 + 0) (codes_from ps 0 16) (codes_from ps 0 16) a.out.now (front-is _ _ refl) (omega arith)
-          (omega (arith, c.requires.in_bounds.1))) }
+          (omega (arith, c.requires.in_bounds.1)));
+    }
 
 pub put_bases-requires : goal.put_bases-requires
-put_bases-requires c = 
+put_bases-requires c =
     let ps = packets_of c.args.block.now in
     let f : is_amino c.args.alphabet ≡ false = sym
     c.is_amino.ensures ∙ c.if-is_amino.false in
     let m : margin c.args.alphabet ≡ 10 = rw f in
-    let t = no_fives ps 16 (sym c.five_bit_packets.ensures ∙ c.if-five_bit_packets-eq0.true) in record { in_bounds = (
+    let t = no_fives ps 16 (sym c.five_bit_packets.ensures ∙ c.if-five_bit_packets-eq0.true) in record {
+      in_bounds = (
         c.requires.in_bounds.0,
         omega
             (arith, c.requires.in_bounds.1, twos-count ps 16 16 t (omega arith)),
-      ); all_of = t }
+      );
+      all_of = t;
+    }
 
 pub returns-then-five_bit_packets-eq0 : goal.returns-then-five_bit_packets-eq0
-returns-then-five_bit_packets-eq0 c = 
+returns-then-five_bit_packets-eq0 c =
     let a = c.args in
     let ps = packets_of a.block.now in
     let f : is_amino a.alphabet ≡ false = sym c.is_amino.ensures ∙
     c.if-is_amino.false in
-    let t = no_fives ps 16 (sym c.five_bit_packets.ensures ∙ c.if-five_bit_packets-eq0.true) in record { behind = omega (arith, twos-count ps 16 16 t (omega arith)); codes = rw f (begun_wider a.place (a.place + 241) (a.place + 240 + 10) (codes_from ps 0 16) a.out.now _ (omega arith)
-          c.put_bases.ensures) }
+    let t = no_fives ps 16 (sym c.five_bit_packets.ensures ∙ c.if-five_bit_packets-eq0.true) in record {
+      behind = omega (arith, twos-count ps 16 16 t (omega arith));
+      codes = rw f (begun_wider a.place (a.place + 241) (a.place + 240 + 10) (codes_from ps 0 16) a.out.now _ (omega arith)
+          c.put_bases.ensures);
+    }
 
 pub put_mixed-requires : goal.put_mixed-requires
-put_mixed-requires c = 
+put_mixed-requires c =
     let f : is_amino c.args.alphabet ≡ false = sym
     c.is_amino.ensures ∙ c.if-is_amino.false in
     let m : margin c.args.alphabet ≡ 10 = rw f in (
@@ -83,7 +95,7 @@ put_mixed-requires c =
     )
 
 pub returns : goal.returns
-returns c = 
+returns c =
     let f : is_amino c.args.alphabet ≡ false = sym
     c.is_amino.ensures ∙
     c.if-is_amino.false in

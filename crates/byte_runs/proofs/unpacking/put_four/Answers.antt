@@ -10,7 +10,7 @@ use borrow.Author.Rules.{rules}
 use Rattle.byte_runs.proofs.unpacking.put_four.Goals as goal
 
 pub returns : goal.returns
-returns c = 
+returns c =
     let a = c.args in
     c.store-4.ensures
     ∙ ap (λ (l : List ℕ). written_at (a.at + 12) (little_bytes 4 a.d) l)

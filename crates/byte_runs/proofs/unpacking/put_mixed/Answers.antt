@@ -21,7 +21,7 @@ pub packet_at-packet-requires : goal.packet_at-packet-requires
 packet_at-packet-requires c = omega (arith, c.requires.0)
 
 pub loop-i-preserved : goal.loop-i-preserved
-loop-i-preserved c = 
+loop-i-preserved c =
     let a = c.args in
     let l = c.loop-i in
     let ps = packets_of a.block.now in
@@ -47,13 +47,13 @@ loop-i-preserved c =
     )
 
 pub loop-j-init : goal.loop-j-init
-loop-j-init c = 
+loop-j-init c =
     let a = c.args in
     let ps = packets_of a.block.now in
     (omega arith, omega (arith, none_yet ps 0), begun-start ps 0 a.place (a.place + length (codes_from ps 0 16) + 10) a.out.now)
 
 pub put_four-requires : goal.put_four-requires
-put_four-requires c = 
+put_four-requires c =
     let a = c.args in
     let m = c.loop-j in
     let ps = packets_of a.block.now in
@@ -71,7 +71,7 @@ pub packet_at-requires : goal.packet_at-requires
 packet_at-requires c = omega (arith, c.requires.0)
 
 pub overflow_add-at : goal.overflow_add-at
-overflow_add-at c = 
+overflow_add-at c =
     let a = c.args in
     let m = c.loop-j in
     let ps = packets_of a.block.now in
@@ -85,7 +85,7 @@ overflow_add-at c =
     )
 
 pub loop-j-preserved : goal.loop-j-preserved
-loop-j-preserved c = 
+loop-j-preserved c =
     let a = c.args in
     let l = c.loop-i in
     let m = c.loop-j in
@@ -101,7 +101,7 @@ loop-j-preserved c =
     )
 
 pub returns : goal.returns
-returns c = 
+returns c =
     let m = c.loop-j in
     let n : m.j ≡ 16 = omega arith in
     let e : m.at ≡ c.args.place + length

@@ -22,13 +22,16 @@ overflow_add-result c = omega (
 )
 
 pub returns-then-count-eq6 : goal.returns-then-count-eq6
-returns-then-count-eq6 c = 
+returns-then-count-eq6 c =
     let a = c.args in
     let n : length (codes_in a.packet) ≡ 6 = omega (arith, c.code_count-count.ensures) in
     let x = c.first_four in
-    let y = c.last_two in record { behind = omega arith; codes = c.put_six.ensures
+    let y = c.last_two in record {
+      behind = omega arith;
+      codes = c.put_six.ensures
           ∙ ap (λ (l : List ℕ). written_at a.at l a.out.now)
-          (six_parts a.packet x.result y.result x.ensures y.ensures ∙ sym (codes_five a.packet (six_codes a.packet n))) }
+          (six_parts a.packet x.result y.result x.ensures y.ensures ∙ sym (codes_five a.packet (six_codes a.packet n)));
+    }
 
 pub overflow_add-result-2 : goal.overflow_add-result-2
 overflow_add-result-2 c = omega (
@@ -38,6 +41,9 @@ overflow_add-result-2 c = omega (
 )
 
 pub returns : goal.returns
-returns c = 
-    let a = c.args in record { behind = omega (arith, c.code_count-count.ensures); codes = c.decode_codes.ensures ∙ codes_put_lem
-          a.packet a.at a.out.now (codes_in a.packet) refl c.requires }
+returns c =
+    let a = c.args in record {
+      behind = omega (arith, c.code_count-count.ensures);
+      codes = c.decode_codes.ensures ∙ codes_put_lem
+          a.packet a.at a.out.now (codes_in a.packet) refl c.requires;
+    }

@@ -10,7 +10,7 @@ use borrow.Author.Rules.{rules}
 use Rattle.byte_runs.proofs.unpacking.put_six.Goals as goal
 
 pub returns : goal.returns
-returns c = 
+returns c =
     let a = c.args in
     c.store-2.ensures
     ∙ (ap (λ (l : List ℕ). written_at (a.at + 4) (little_bytes 2 a.two) l) c.store.ensures

@@ -22,7 +22,7 @@ pub packet_at-packet-requires : goal.packet_at-packet-requires
 packet_at-packet-requires c = omega (arith, c.requires.in_bounds.0)
 
 pub loop-i-preserved : goal.loop-i-preserved
-loop-i-preserved c = 
+loop-i-preserved c =
     let a = c.args in
     let l = c.loop-i in
     let ps = packets_of a.block.now in
@@ -50,7 +50,7 @@ pub put_six-requires : goal.put_six-requires
 put_six-requires c = omega (arith, c.requires.in_bounds.1, c.loop-j.invariant.1.size)
 
 pub loop-j-preserved : goal.loop-j-preserved
-loop-j-preserved c = 
+loop-j-preserved c =
     let a = c.args in
     let l = c.loop-i in
     let m = c.loop-j in
@@ -64,7 +64,7 @@ loop-j-preserved c =
     )
 
 pub returns : goal.returns
-returns c = 
+returns c =
     let a = c.args in
     let m = c.loop-j in
     let ps = packets_of a.block.now in

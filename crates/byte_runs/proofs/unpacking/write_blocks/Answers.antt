@@ -21,7 +21,7 @@ use borrow.Author.Rules.{rules}
 use Rattle.byte_runs.proofs.unpacking.write_blocks.Goals as goal
 
 pub loop-i-init : goal.loop-i-init
-loop-i-init c = 
+loop-i-init c =
     let ps = packets_of c.args.bytes.now in
     (omega arith, sym (none_yet ps 0), begun-start ps 0 0 (length (unpacked ps)) c.args.out.now)
 
@@ -47,7 +47,7 @@ slice_bounds-put_block-start c = omega (
 )
 
 pub put_block-at-requires : goal.put_block-at-requires
-put_block-at-requires c = 
+put_block-at-requires c =
     let a = c.args in
     let l = c.loop-i in
     let b = a.bytes.now in
@@ -62,7 +62,8 @@ put_block-at-requires c =
     let behind : 16 * l.i + 16 + spare a.alphabet < length ps = omega (arith, c.requires.blocks_in_bounds) in
     let rest = part_rest b s in
     let codes : length (codes_from (packets_of (drop s b)) 0 16) ≡ length (codes_from ps (16 * l.i) 16) = ap length (block_codes b l.i s here (omega arith)) in
-    rw rest (record { in_bounds = (
+    rw rest (record {
+      in_bounds = (
         omega (arith, length-drop s b),
         omega (
           arith,
@@ -72,11 +73,13 @@ put_block-at-requires c =
           block_room
               a.alphabet ps c.requires.bytes_value.0 l.i behind,
         ),
-      ); all_of = λ t. block_fives b l.i s here (omega arith) (rw (eqb-true a.alphabet 3 t) at
-          c.requires.bytes_value.0) (omega arith) })
+      );
+      all_of = λ t. block_fives b l.i s here (omega arith) (rw (eqb-true a.alphabet 3 t) at
+          c.requires.bytes_value.0) (omega arith);
+    })
 
 pub loop-i-preserved : goal.loop-i-preserved
-loop-i-preserved c = 
+loop-i-preserved c =
     let a = c.args in
     let l = c.loop-i in
     let b = a.bytes.now in
@@ -103,7 +106,7 @@ loop-i-preserved c =
     )
 
 pub returns : goal.returns
-returns c = 
+returns c =
     let l = c.loop-i in
     let n : l.i ≡ c.args.blocks = omega arith in
     record { count = l.invariant.1 ∙ rw n; codes = rw (← n) l.invariant.2 }

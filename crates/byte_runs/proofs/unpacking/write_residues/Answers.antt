@@ -22,27 +22,30 @@ overflow_sub-bytes c = omega (
 )
 
 pub write_blocks-at-requires : goal.write_blocks-at-requires
-write_blocks-at-requires c = 
+write_blocks-at-requires c =
     let e = length-packets little c.args.bytes.now in
     record { bytes_value = c.requires; blocks_in_bounds = rw e c.block_count-blocks.ensures }
 
 pub write_rest-requires : goal.write_rest-requires
-write_rest-requires c = 
+write_rest-requires c =
     let a = c.args in
     let ps = packets_of a.bytes.now in
     let n = 16 * c.block_count-blocks.result in
     let some = well_some a.alphabet ps c.requires.0 in
-    let h : n < length ps = omega (arith, c.block_count-blocks.ensures, length-packets little a.bytes.now) in record { bytes_value = (c.requires.0, h); bytes_in_bounds = omega (
+    let h : n < length ps = omega (arith, c.block_count-blocks.ensures, length-packets little a.bytes.now) in record {
+      bytes_value = (c.requires.0, h);
+      bytes_in_bounds = omega (
         arith,
         c.requires.1,
         c.write_blocks-at.ensures.count,
         c.write_blocks-at.ensures.codes.size,
         first_count a.alphabet ps
             c.requires.0 n h,
-      ) }
+      );
+    }
 
 pub returns : goal.returns
-returns c = 
+returns c =
     let a = c.args in
     let ps = packets_of a.bytes.now in
     let n = 16 * c.block_count-blocks.result in

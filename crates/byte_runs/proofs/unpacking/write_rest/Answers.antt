@@ -15,7 +15,7 @@ use borrow.Author.Rules.{rules}
 use Rattle.byte_runs.proofs.unpacking.write_rest.Goals as goal
 
 pub loop-done-init : goal.loop-done-init
-loop-done-init c = 
+loop-done-init c =
     let a = c.args in
     let ps = packets_of a.bytes.now in (
       omega (arith, c.requires.bytes_value.1, length-packets little a.bytes.now),
@@ -24,7 +24,7 @@ loop-done-init c =
     )
 
 pub put_one-at-requires : goal.put_one-at-requires
-put_one-at-requires c = 
+put_one-at-requires c =
     let a = c.args in
     let l = c.loop-done in
     let p = c.packet_at in
@@ -39,7 +39,7 @@ put_one-at-requires c =
     )
 
 pub loop-done-preserved : goal.loop-done-preserved
-loop-done-preserved c = 
+loop-done-preserved c =
     let a = c.args in
     let l = c.loop-done in
     let p = c.packet_at in
@@ -63,7 +63,7 @@ loop-done-preserved c =
     )
 
 pub returns : goal.returns
-returns c = 
+returns c =
     let a = c.args in
     let l = c.loop-done in
     let p = c.packet_at-2 in

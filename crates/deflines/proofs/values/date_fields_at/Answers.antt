@@ -7,7 +7,7 @@ use Rattle.deflines.proofs.values.date_fields_at.Goals as goal
 
 pub returns : goal.returns
 unfolding date_fields_at
-returns c = 
+returns c =
     rw (
       to_z-of_z w64 _ (record { sfits = c.integer_held-year.type_inv }),
       c.integer_held-year.ensures,

@@ -16,7 +16,7 @@ returns-in-161 c = rw (← c.byte-tag.ensures, c.in-161.is, to_z-of_z w64 _ (rec
 
 pub returns-in-162 : goal.returns-in-162
 unfolding identifier_at
-returns-in-162 c = 
+returns-in-162 c =
     rw (
       ← c.byte-tag.ensures,
       c.in-162.is,
@@ -38,7 +38,7 @@ returns-in-170 c = rw (← c.byte-tag.ensures, c.in-170.is, c.database_tag_at.en
 
 pub returns-in-171 : goal.returns-in-171
 unfolding identifier_at
-returns-in-171 c = 
+returns-in-171 c =
     rw (
       ← c.byte-tag.ensures,
       c.in-171.is,
@@ -52,7 +52,7 @@ returns-in-174 c = rw (← c.byte-tag.ensures, c.in-174.is, c.structure_at.ensur
 
 pub returns-in_default : goal.returns-in_default
 unfolding identifier_at
-returns-in_default c = 
+returns-in_default c =
     let n = c.in_default.in_default-own.rest in
     rw (
       ← c.byte-tag.ensures,

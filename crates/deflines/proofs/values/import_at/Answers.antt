@@ -7,7 +7,7 @@ use Rattle.deflines.proofs.values.import_at.Goals as goal
 
 pub returns : goal.returns
 unfolding import_at
-returns c = 
+returns c =
     rw (
       to_z-of_z w64 _ (record { sfits = c.integer_held-id.type_inv }),
       c.integer_held-id.ensures,

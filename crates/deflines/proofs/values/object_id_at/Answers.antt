@@ -9,7 +9,7 @@ use Rattle.deflines.proofs.values.object_id_at.Goals as goal
 
 pub returns-then-byte : goal.returns-then-byte
 unfolding object_id_at
-returns-then-byte c = 
+returns-then-byte c =
     rw (
       to_z-of_z w64 _ (record { sfits = c.integer_held.type_inv }),
       eq-eqb _ _ (sym c.byte.ensures ∙ c.if-byte.true),

@@ -10,7 +10,7 @@ pub overflow_add-p : goal.overflow_add-p
 overflow_add-p c = let h = field_room _ _ _ _ _ c.field_in.ensures c.in-Found.is in omega arith
 
 pub returns-in-Found : goal.returns-in-Found
-returns-in-Found c = 
+returns-in-Found c =
     rw (
       to_z-of_z w64 _ (record { sfits = c.integer_held.type_inv }),
       ← c.field_in.ensures,

@@ -7,7 +7,7 @@ use Rattle.deflines.proofs.values.structure_at.Goals as goal
 
 pub returns : goal.returns
 unfolding structure_at
-returns c = 
+returns c =
     rw (
       to_z-of_z w64 _ (record { sfits = c.chain_of-chain.type_inv }),
       c.text_held-mol.ensures,

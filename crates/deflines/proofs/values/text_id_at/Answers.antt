@@ -5,7 +5,7 @@ use Rattle.deflines.proofs.values.text_id_at.Goals as goal
 
 pub returns : goal.returns
 unfolding text_id_at
-returns c = 
+returns c =
     rw (
       c.optional_text-name.ensures,
       c.optional_text-accession.ensures,

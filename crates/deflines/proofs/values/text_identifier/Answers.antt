@@ -36,7 +36,7 @@ pub returns-in-178 : goal.returns-in-178
 returns-in-178 c = rw c.in-178.is
 
 pub returns-in_default : goal.returns-in_default
-returns-in_default c = 
+returns-in_default c =
     let n = c.in_default.in_default-own.rest in
     rw (
       ne_eqb _ _ n.0.0.0.0.0.0.0.0.0.0.1,

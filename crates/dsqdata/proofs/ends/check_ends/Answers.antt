@@ -41,7 +41,7 @@ loop-k-preserved c = let a = c.args in
 
 pub returns-then-count_to-size : goal.returns-then-count_to-size
 unfolding ends_rules
-returns-then-count_to-size c = 
+returns-then-count_to-size c =
     let all-rise : let a = c.args in every (rises_at a.order a.index.now a.table) a.n ≡ true = let a = c.args in
     let l = c.loop-k in
     every-done (rises_at a.order a.index.now a.table) l.k a.n l.invariant.0 c.loop-k-test.false l.invariant.2 in
@@ -54,7 +54,7 @@ returns-then-count_to-size c =
 
 pub returns : goal.returns
 unfolding ends_rules
-returns c = 
+returns c =
     let all-rise : let a = c.args in every (rises_at a.order a.index.now a.table) a.n ≡ true = let a = c.args in
     let l = c.loop-k in
     every-done (rises_at a.order a.index.now a.table) l.k a.n l.invariant.0 c.loop-k-test.false l.invariant.2 in

@@ -13,7 +13,7 @@ pub overflow_add-result : goal.overflow_add-result
 overflow_add-result c = nat_fits _ c.ranges.end c.if-end-lt0.false
 
 pub returns : goal.returns
-returns c = 
+returns c =
     let f = c.ranges.end in
     let e = nat_after _ f c.if-end-lt0.false in
     record { value = e; most = rw e (after_small c.args.end f.sfits) }

@@ -10,7 +10,7 @@ pub returns-then-k-eq0 : goal.returns-then-k-eq0
 returns-then-k-eq0 c = let a = c.args in sym (end_zero a.order a.index.now a.table a.k c.if-k-eq0.true)
 
 pub returns : goal.returns
-returns c = 
+returns c =
     let a = c.args in
     let z = c.end_of in
     again w64 _ _ z.type_inv (z.ensures ∙ end_not_first a.order a.index.now a.table a.k c.if-k-eq0.false)

@@ -7,7 +7,7 @@ use borrow.Author.Rules.{rules}
 use Rattle.dsqdata.proofs.ends.end_of.Goals as goal
 
 pub returns : goal.returns
-returns c = 
+returns c =
     let a = c.args in
     let z = c.i64_at in
     again w64 _ _ z.type_inv (z.ensures ∙ sym (end_suc a.order a.index.now a.table a.k))

@@ -4,7 +4,7 @@ use borrow.Author.Rules.{rules}
 use Rattle.dsqdata.proofs.ends.metadata_end.Goals as goal
 
 pub returns : goal.returns
-returns c = 
+returns c =
     let z = c.end_of in
     let p = c.count_to in
     record { value = after_again _ _ p.ensures.value z.type_inv z.ensures; most = p.ensures.most }

@@ -4,7 +4,7 @@ use borrow.Author.Rules.{rules}
 use Rattle.dsqdata.proofs.ends.metadata_start.Goals as goal
 
 pub returns : goal.returns
-returns c = 
+returns c =
     let z = c.end_before in
     let p = c.count_to in
     after_again _ _ p.ensures.value z.type_inv z.ensures

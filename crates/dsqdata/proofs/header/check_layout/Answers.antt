@@ -5,20 +5,20 @@ use borrow.Author.Rules.{rules}
 use Rattle.dsqdata.proofs.header.check_layout.Goals as goal
 
 pub returns-then-not-is_alphabet : goal.returns-then-not-is_alphabet
-returns-then-not-is_alphabet c = 
+returns-then-not-is_alphabet c =
     let a = c.args in
     alphabet-stopped a.order a.index.now a.sequence.now c.requires c.is_alphabet.ensures
     (c.if-not-is_alphabet.true)
 
 pub returns-then-set-ne0 : goal.returns-then-set-ne0
-returns-then-set-ne0 c = 
+returns-then-set-ne0 c =
     let a = c.args in
     flags-stopped a.order a.index.now a.sequence.now c.requires
     c.is_alphabet.ensures
     (c.if-not-is_alphabet.false) c.if-set-ne0.true
 
 pub returns-in-Refused : goal.returns-in-Refused
-returns-in-Refused c = 
+returns-in-Refused c =
     let a = c.args in
     count-stopped a.order a.index.now a.sequence.now c.requires
     c.is_alphabet.ensures
@@ -27,7 +27,7 @@ returns-in-Refused c =
     c.in-Refused.is
 
 pub returns-then-bytes_after_header-ne0 : goal.returns-then-bytes_after_header-ne0
-returns-then-bytes_after_header-ne0 c = 
+returns-then-bytes_after_header-ne0 c =
     let a = c.args in
     body-stopped a.order a.index.now a.sequence.now c.requires
     c.is_alphabet.ensures
@@ -36,7 +36,7 @@ returns-then-bytes_after_header-ne0 c =
     c.in_default.is c.bytes_after_header.ensures c.if-bytes_after_header-ne0.true
 
 pub returns : goal.returns
-returns c = 
+returns c =
     let a = c.args in
     layout_passed a.order a.index.now a.sequence.now c.requires
     c.is_alphabet.ensures

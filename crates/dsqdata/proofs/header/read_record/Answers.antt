@@ -4,7 +4,7 @@ use borrow.Author.Rules.{rules}
 use Rattle.dsqdata.proofs.header.read_record.Goals as goal
 
 pub returns : goal.returns
-returns c = 
+returns c =
     let a = c.args in
     record-read a.order a.index.now
     c.u32_at.ensures

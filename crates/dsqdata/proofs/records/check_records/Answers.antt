@@ -19,7 +19,7 @@ use borrow.Author.Rules.{rules}
 use Rattle.dsqdata.proofs.records.check_records.Goals as goal
 
 pub loop-k-init : goal.loop-k-init
-loop-k-init c = 
+loop-k-init c =
     let e = ap (λ (z : ℤ). 8 + after z) (end_zero c.args.order c.args.index.now metadata_table 0 refl) in
     (omega arith, sym e, refl, refl, refl, tt)
 
@@ -27,7 +27,7 @@ pub record_end-to-requires : goal.record_end-to-requires
 record_end-to-requires c = omega (arith, c.requires)
 
 pub returns-in_default : goal.returns-in_default
-returns-in_default c = 
+returns-in_default c =
     let a = c.args in
     let l = c.loop-k in
     let to = c.record_end-to.ensures in
@@ -35,7 +35,7 @@ returns-in_default c =
     (record-read a.order a.index.now a.metadata.now l.k l.invariant.1 to c.read_record.ensures c.in_default.is)
 
 pub loop-k-preserved : goal.loop-k-preserved
-loop-k-preserved c = 
+loop-k-preserved c =
     let a = c.args in
     let l = c.loop-k in
     let to = c.record_end-to.ensures in
@@ -51,7 +51,7 @@ loop-k-preserved c =
     )
 
 pub returns : goal.returns
-returns c = 
+returns c =
     let a = c.args in
     let l = c.loop-k in
     records-done a.order a.index.now a.metadata.now a.n l.k l.invariant.0 c.loop-k-test.false

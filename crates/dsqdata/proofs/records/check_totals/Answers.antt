@@ -17,10 +17,10 @@ pub returns-then-accession-set : goal.returns-then-accession-set
 returns-then-accession-set c = accession_wrong _ _ _ _ _ _ c.if-accession-set.true
 
 pub returns-then-description-set : goal.returns-then-description-set
-returns-then-description-set c = 
+returns-then-description-set c =
     let a = c.args in
     description_wrong a.set a.residues a.sequence a.name a.accession a.description (λ x. omega (arith, x))
 
 pub returns : goal.returns
-returns c = 
+returns c =
     totals_right _ _ _ _ _ _ c.if-residues-set.false c.if-sequence-set.false c.if-name-set.false c.if-accession-set.false c.if-description-set.false

@@ -48,7 +48,7 @@ returns-in_default c = let l = c.loop-k in
     sym (rules_refused (λ k. rules_of_run a.alphabet (run_at a.order i s k)) a.n l.k _ _ (omega arith) l.invariant.5 e refl Refused fine)
 
 pub overflow_add-residues : goal.overflow_add-residues
-overflow_add-residues c = 
+overflow_add-residues c =
     let run-here : let a = c.args in
     RunPassed a.order a.index.now a.sequence.now a.alphabet c.loop-k.k c.in-Residues.count = let a = c.args in
     let l = c.loop-k in
@@ -57,7 +57,7 @@ overflow_add-residues c =
     omega (arith, (run-here).1, c.requires.n_bound, residues-most c.args.order c.args.index.now c.args.sequence.now c.loop-k.k)
 
 pub loop-k-preserved : goal.loop-k-preserved
-loop-k-preserved c = 
+loop-k-preserved c =
     let run-here : let a = c.args in
     RunPassed a.order a.index.now a.sequence.now a.alphabet c.loop-k.k c.in-Residues.count = let a = c.args in
     let l = c.loop-k in

@@ -4,7 +4,7 @@ use borrow.Author.Rules.{rules}
 use Rattle.dsqdata.proofs.set_runs.read_run.Goals as goal
 
 pub returns : goal.returns
-returns c = 
+returns c =
     let a = c.args in
     let p = c.requires in
     let b = c.byte_of-start in

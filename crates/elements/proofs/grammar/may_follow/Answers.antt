@@ -11,7 +11,7 @@ pub returns-then-b-low : goal.returns-then-b-low
 returns-then-b-low c = rw (c.in-Record.is, lt-leb _ _ c.if-b-low.true)
 
 pub returns-then-optional_from-low : goal.returns-then-optional_from-low
-returns-then-optional_from-low c = 
+returns-then-optional_from-low c =
     rw (
       c.in-Record.is,
       le-leb _ _ c.if-b-low.false,
@@ -20,7 +20,7 @@ returns-then-optional_from-low c =
     )
 
 pub returns : goal.returns
-returns c = 
+returns c =
     rw (
       c.in-Record.is,
       le-leb _ _ c.if-b-low.false,

@@ -12,7 +12,7 @@ pub loop-i-init : goal.loop-i-init
 loop-i-init c = (omega arith, omega arith, refl)
 
 pub overflow_add-count : goal.overflow_add-count
-overflow_add-count c = 
+overflow_add-count c =
     let asked = c.requires in
     let a = c.args in
     let l = c.loop-i in
@@ -21,7 +21,7 @@ overflow_add-count c =
     record { fits = omega (arith, l.invariant, asked) }
 
 pub loop-i-preserved : goal.loop-i-preserved
-loop-i-preserved c = 
+loop-i-preserved c =
     let a = c.args in
     let l = c.loop-i in
     let e = c.is_ambiguous-count.ensures in
@@ -32,7 +32,7 @@ loop-i-preserved c =
     )
 
 pub returns : goal.returns
-returns c = 
+returns c =
     let given_args = c.args in
     let l = c.loop-i in
     let e : l.i ≡ given_args.n = omega (arith, l.invariant.0) in

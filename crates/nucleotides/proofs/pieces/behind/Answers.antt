@@ -5,13 +5,13 @@ use borrow.Author.Rules.{rules}
 use Rattle.nucleotides.proofs.pieces.behind.Goals as goal
 
 pub returns-then-codes-at-lt4 : goal.returns-then-codes-at-lt4
-returns-then-codes-at-lt4 c = 
+returns-then-codes-at-lt4 c =
     let asked = c.requires in
     let a = c.args in
     λ s m b met short. (past-plain a.limit a.codes.now a.from s a.at m asked.2 asked.1 b met c.if-codes-at-lt4.true, omega arith)
 
 pub returns : goal.returns
-returns c = 
+returns c =
     let asked = c.requires in
     let stretch-start = c.stretch_start-s in
     let if1 = c.if-codes-at-lt4 in

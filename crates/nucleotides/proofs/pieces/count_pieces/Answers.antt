@@ -10,7 +10,7 @@ pub loop-k-init : goal.loop-k-init
 loop-k-init c = let a = c.args in (omega arith, met_none a.limit a.codes.now a.from c.requires.0)
 
 pub loop-k-preserved-then-codes-k-lt4 : goal.loop-k-preserved-then-codes-k-lt4
-loop-k-preserved-then-codes-k-lt4 c = 
+loop-k-preserved-then-codes-k-lt4 c =
     let asked = c.requires in
     let a = c.args in
     let l = c.loop-k in
@@ -29,7 +29,7 @@ pub loop-k-smaller : goal.loop-k-smaller
 loop-k-smaller c = let b = c.piece_length-k.ensures.bounds in omega arith
 
 pub loop-k-preserved : goal.loop-k-preserved
-loop-k-preserved c = 
+loop-k-preserved c =
     let asked = c.requires in
     let if1 = c.if-codes-k-lt4 in
     let a = c.args in

@@ -8,7 +8,7 @@ use borrow.Author.Rules.{rules}
 use Rattle.nucleotides.proofs.pieces.cut_stretch.Goals as goal
 
 pub loop-k-init : goal.loop-k-init
-loop-k-init c = 
+loop-k-init c =
     let asked = c.requires in
     let a = c.args in (omega arith, asked.from_le_end.0, omega arith, met_none a.limit a.codes.now a.from (omega (arith, asked.from_le_end)))
 
@@ -22,7 +22,7 @@ pub loop-k-smaller : goal.loop-k-smaller
 loop-k-smaller c = omega (arith, c.requires.from_le_end, c.loop-k.invariant)
 
 pub loop-k-preserved : goal.loop-k-preserved
-loop-k-preserved c = 
+loop-k-preserved c =
     let asked = c.requires in
     let a = c.args in
     let l = c.loop-k in
@@ -35,13 +35,13 @@ loop-k-preserved c =
     )
 
 pub count_pieces-rest-requires : goal.count_pieces-rest-requires
-count_pieces-rest-requires c = 
+count_pieces-rest-requires c =
     let asked = c.requires in
     let loop = c.loop-k in
     let v = loop.invariant in (omega (arith, v.1, asked.from_le_end.1), asked.from_le_end.1, asked.from_le_end.2)
 
 pub overflow_add-result : goal.overflow_add-result
-overflow_add-result c = 
+overflow_add-result c =
     let a = c.args in
     let l = c.loop-k in
     let r = c.count_pieces-rest in
@@ -50,7 +50,7 @@ overflow_add-result c =
     record { fits = omega arith }
 
 pub returns : goal.returns
-returns c = 
+returns c =
     let a = c.args in
     let l = c.loop-k in
     let r = c.count_pieces-rest in

@@ -5,6 +5,6 @@ use borrow.Author.Rules.{rules}
 use Rattle.nucleotides.proofs.pieces.largest_in.Goals as goal
 
 pub returns : goal.returns
-returns c = 
+returns c =
     let asked = c.requires in
     let a = c.args in c.largest_code.ensures ∙ largest_part a.codes.now a.start a.end asked.0 asked.1

@@ -23,7 +23,7 @@ count_block-reached-requires c = let a = c.args in
     let e = c.block_end-end in record { from_in_bounds = (l.invariant.3.inside, e.ensures.1, c.requires, omega (arith, e.ensures, l.invariant.1)); by_index = λ k p q. rw c.largest_in-largest.ensures (at_most_largest a.codes.now l.start e.result k (omega (arith, l.invariant.1)) q) }
 
 pub overflow_add-pieces : goal.overflow_add-pieces
-overflow_add-pieces c = 
+overflow_add-pieces c =
     let met : let a = c.args in
     let l = c.loop-start in
     Met a.limit a.codes.now 0 (l.pieces + c.count_block-reached.result.pieces) c.count_block-reached.result.next = let a = c.args in
@@ -39,7 +39,7 @@ pub loop-start-smaller : goal.loop-start-smaller
 loop-start-smaller c = let e = c.block_end-end.ensures in omega arith
 
 pub loop-start-preserved : goal.loop-start-preserved
-loop-start-preserved c = 
+loop-start-preserved c =
     let met : let a = c.args in
     let l = c.loop-start in
     Met a.limit a.codes.now 0 (l.pieces + c.count_block-reached.result.pieces) c.count_block-reached.result.next = let a = c.args in

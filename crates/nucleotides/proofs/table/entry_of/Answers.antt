@@ -23,21 +23,21 @@ pub overflow_shl-result-2 : goal.overflow_shl-result-2
 overflow_shl-result-2 c = let s = widths c.args.w c.requires.0 in omega arith
 
 pub overflow_add-result : goal.overflow_add-result
-overflow_add-result c = 
+overflow_add-result c =
     let a = c.args in
     let h = c.requires in
     let t = entry_told a.w a.code a.start a.length c.ambiguity_value-value.result h.0 c.ambiguity_value-value.ensures h.1 h.2 h.3 in
     record { fits = omega arith }
 
 pub overflow_add-result-2 : goal.overflow_add-result-2
-overflow_add-result-2 c = 
+overflow_add-result-2 c =
     let a = c.args in
     let h = c.requires in
     let t = entry_told a.w a.code a.start a.length c.ambiguity_value-value.result h.0 c.ambiguity_value-value.ensures h.1 h.2 h.3 in
     record { fits = omega arith }
 
 pub returns : goal.returns
-returns c = 
+returns c =
     let a = c.args in
     let h = c.requires in
     let t = entry_told a.w a.code a.start a.length c.ambiguity_value-value.result h.0 c.ambiguity_value-value.ensures h.1 h.2 h.3 in

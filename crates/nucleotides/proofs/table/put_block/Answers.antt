@@ -7,7 +7,7 @@ use borrow.Author.Rules.{rules}
 use Rattle.nucleotides.proofs.table.put_block.Goals as goal
 
 pub returns-then-largest-lt4 : goal.returns-then-largest-lt4
-returns-then-largest-lt4 c = 
+returns-then-largest-lt4 c =
     let asked = c.requires in
     let a = c.args in
     let m = met_block a.limit a.codes.now a.from a.end asked.from_in_bounds.0 asked.from_in_bounds.1 (λ i p q. let h = asked.by_index i p q in omega arith) in

@@ -33,14 +33,14 @@ piece_length-length-requires c = let asked = c.requires in
     (omega (arith, asked.from_in_bounds.1), rw asked.from_in_bounds.3 (pow_pos _))
 
 pub overflow_mul-w : goal.overflow_mul-w
-overflow_mul-w c = 
+overflow_mul-w c =
     let codes : List ℕ = c.args.codes.now in
     let k : ℕ = c.loop-k.k in
     let n : ℕ = c.loop-k.n in
     let positive : 0 < c.args.limit = rw c.requires.from_in_bounds.3 (pow_pos (2 * c.args.w - 4)) in
     let inside : k < length codes = omega (arith, c.requires.from_in_bounds.1) in
     let more : n < length (pieces_from c.args.limit codes c.args.from) = met_more c.args.limit codes c.args.from n k c.piece_length-length.result c.loop-k.invariant.1 positive inside
-      c.if-codes-k-lt4.false c.piece_length-length.ensures.value in
+    c.if-codes-k-lt4.false c.piece_length-length.ensures.value in
     let room : c.args.at + c.args.w * n + c.args.w ≤ length c.args.out.now = entry_room c.args.w c.args.at n _ (length c.args.out.now) c.requires.from_in_bounds.2 more c.requires.codes_len_bound.1 in
     let a = c.args in
     let l = c.loop-k in
@@ -48,14 +48,14 @@ overflow_mul-w c =
     record { fits = omega arith }
 
 pub overflow_add-at : goal.overflow_add-at
-overflow_add-at c = 
+overflow_add-at c =
     let codes : List ℕ = c.args.codes.now in
     let k : ℕ = c.loop-k.k in
     let n : ℕ = c.loop-k.n in
     let positive : 0 < c.args.limit = rw c.requires.from_in_bounds.3 (pow_pos (2 * c.args.w - 4)) in
     let inside : k < length codes = omega (arith, c.requires.from_in_bounds.1) in
     let more : n < length (pieces_from c.args.limit codes c.args.from) = met_more c.args.limit codes c.args.from n k c.piece_length-length.result c.loop-k.invariant.1 positive inside
-      c.if-codes-k-lt4.false c.piece_length-length.ensures.value in
+    c.if-codes-k-lt4.false c.piece_length-length.ensures.value in
     let room : c.args.at + c.args.w * n + c.args.w ≤ length c.args.out.now = entry_room c.args.w c.args.at n _ (length c.args.out.now) c.requires.from_in_bounds.2 more c.requires.codes_len_bound.1 in
     let a = c.args in
     let l = c.loop-k in
@@ -63,14 +63,14 @@ overflow_add-at c =
     record { fits = omega arith }
 
 pub put_entry-requires : goal.put_entry-requires
-put_entry-requires c = 
+put_entry-requires c =
     let codes : List ℕ = c.args.codes.now in
     let k : ℕ = c.loop-k.k in
     let n : ℕ = c.loop-k.n in
     let positive : 0 < c.args.limit = rw c.requires.from_in_bounds.3 (pow_pos (2 * c.args.w - 4)) in
     let inside : k < length codes = omega (arith, c.requires.from_in_bounds.1) in
     let more : n < length (pieces_from c.args.limit codes c.args.from) = met_more c.args.limit codes c.args.from n k c.piece_length-length.result c.loop-k.invariant.1 positive inside
-      c.if-codes-k-lt4.false c.piece_length-length.ensures.value in
+    c.if-codes-k-lt4.false c.piece_length-length.ensures.value in
     let room : c.args.at + c.args.w * n + c.args.w ≤ length c.args.out.now = entry_room c.args.w c.args.at n _ (length c.args.out.now) c.requires.from_in_bounds.2 more c.requires.codes_len_bound.1 in
     let a = c.args in
     let l = c.loop-k in
@@ -78,14 +78,14 @@ put_entry-requires c =
     (c.requires.from_in_bounds.2, omega (arith, l.invariant.2), c.entry_of.ensures.small)
 
 pub loop-k-preserved : goal.loop-k-preserved
-loop-k-preserved c = 
+loop-k-preserved c =
     let codes : List ℕ = c.args.codes.now in
     let k : ℕ = c.loop-k.k in
     let n : ℕ = c.loop-k.n in
     let positive : 0 < c.args.limit = rw c.requires.from_in_bounds.3 (pow_pos (2 * c.args.w - 4)) in
     let inside : k < length codes = omega (arith, c.requires.from_in_bounds.1) in
     let more : n < length (pieces_from c.args.limit codes c.args.from) = met_more c.args.limit codes c.args.from n k c.piece_length-length.result c.loop-k.invariant.1 positive inside
-      c.if-codes-k-lt4.false c.piece_length-length.ensures.value in
+    c.if-codes-k-lt4.false c.piece_length-length.ensures.value in
     let room : c.args.at + c.args.w * n + c.args.w ≤ length c.args.out.now = entry_room c.args.w c.args.at n _ (length c.args.out.now) c.requires.from_in_bounds.2 more c.requires.codes_len_bound.1 in
     let if1 = c.if-codes-k-lt4 in
     let entry_of = c.entry_of in

@@ -15,12 +15,12 @@ use borrow.Author.Rules.{rules}
 use Rattle.nucleotides.proofs.table.put_word.Goals as goal
 
 pub returns-then-n-eq0 : goal.returns-then-n-eq0
-returns-then-n-eq0 c = 
+returns-then-n-eq0 c =
     let a = c.args in
     rw (word_none a.w a.n c.if-n-eq0.true) (store_none (λ (k : ℕ). k) a.at a.out.now)
 
 pub returns : goal.returns
-returns c = 
+returns c =
     let a = c.args in
     let e = word_some a.w a.n c.if-n-eq0.false in
     let h = c.requires.2 in

@@ -8,7 +8,7 @@ use borrow.Author.Rules.{rules}
 use Rattle.nucleotides.proofs.two_bit.last_byte.Goals as goal
 
 pub overflow_add-result : goal.overflow_add-result
-overflow_add-result c = 
+overflow_add-result c =
     let n = length c.args.codes.now % 4 in
     let a = c.base_at-a in
     let b = c.base_at-b in
@@ -18,7 +18,7 @@ overflow_add-result c =
     record { fits = omega arith }
 
 pub returns : goal.returns
-returns c = 
+returns c =
     let given_args = c.args in
     let base-at = c.base_at-a in
     let base-at2 = c.base_at-b in

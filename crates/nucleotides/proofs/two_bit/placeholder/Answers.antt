@@ -8,5 +8,5 @@ use borrow.Author.Rules.{rules}
 use Rattle.nucleotides.proofs.two_bit.placeholder.Goals as goal
 
 pub returns : goal.returns
-returns c = 
+returns c =
     record { value = ap (λ (v : ℕ). count_trailing_zeros 32 (v + 16) % 4) c.ambiguity_value-v.ensures ∙ placeholder-is c.args.code; small = omega arith }

@@ -15,12 +15,12 @@ pub loop-i-init : goal.loop-i-init
 loop-i-init c = (omega arith, refl, store_none placeholder 0 _)
 
 pub loop-i-preserved : goal.loop-i-preserved
-loop-i-preserved c = 
+loop-i-preserved c =
     let l = c.loop-i in
     (omega arith, simp length-set l.invariant.1, begins-next placeholder l.i _ l.bases (omega arith) c.placeholder.ensures.value l.invariant.2)
 
 pub returns : goal.returns
-returns c = 
+returns c =
     let l = c.loop-i in
     let e : l.i ≡ 16 = omega arith in
     (rw e at l.invariant.2) ∙ all_stored placeholder 16 l.bases l.invariant.1

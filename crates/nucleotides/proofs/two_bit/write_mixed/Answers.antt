@@ -67,12 +67,12 @@ bounds-bases-codes-in-loop-j-3 c = let given_args = c.args in
     let h = asked.by_index (4 * (given_args.m + loop.j) + 3) (omega arith) (omega arith) in search rules
 
 pub joined-requires : goal.joined-requires
-joined-requires c = 
+joined-requires c =
     let codes : List ℕ = c.args.codes.now in
     let place : ℕ = 4 * (c.args.m + c.loop-j.j) in
     let bases : List ℕ = c.placeholders-bases.result in
     let base : (i : ℕ) → (a : 4 * c.args.m ≤ i) → (b : i < 4 * (c.args.m + c.args.n)) → get_or bases (code_at codes i) 0 ≡ placeholder_at codes i = λ (i : ℕ). λ (a : 4 * c.args.m ≤ i). λ (b : i < 4 * (c.args.m + c.args.n)). ap (λ (xs : List ℕ). get_or xs (code_at codes i) 0) c.placeholders-bases.ensures
-      ∙ list_to_at placeholder 16 (code_at codes i) 0 (c.requires.by_index i a b) in
+    ∙ list_to_at placeholder 16 (code_at codes i) 0 (c.requires.by_index i a b) in
     let small : (i : ℕ) → (a : 4 * c.args.m ≤ i) → (b : i < 4 * (c.args.m + c.args.n)) → get_or bases (code_at codes i) 0 < 4 = λ (i : ℕ). λ (a : 4 * c.args.m ≤ i). λ (b : i < 4 * (c.args.m + c.args.n)). rw (base i a b) (placeholder-small (code_at codes i)) in
     let k = place in (
       small k (omega arith) (omega arith),
@@ -82,12 +82,12 @@ joined-requires c =
     )
 
 pub loop-j-preserved : goal.loop-j-preserved
-loop-j-preserved c = 
+loop-j-preserved c =
     let codes : List ℕ = c.args.codes.now in
     let place : ℕ = 4 * (c.args.m + c.loop-j.j) in
     let bases : List ℕ = c.placeholders-bases.result in
     let base : (i : ℕ) → (a : 4 * c.args.m ≤ i) → (b : i < 4 * (c.args.m + c.args.n)) → get_or bases (code_at codes i) 0 ≡ placeholder_at codes i = λ (i : ℕ). λ (a : 4 * c.args.m ≤ i). λ (b : i < 4 * (c.args.m + c.args.n)). ap (λ (xs : List ℕ). get_or xs (code_at codes i) 0) c.placeholders-bases.ensures
-      ∙ list_to_at placeholder 16 (code_at codes i) 0 (c.requires.by_index i a b) in
+    ∙ list_to_at placeholder 16 (code_at codes i) 0 (c.requires.by_index i a b) in
     let a = c.args in
     let l = c.loop-j in
     let p = c.joined in

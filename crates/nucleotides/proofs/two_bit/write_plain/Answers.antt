@@ -16,7 +16,7 @@ pub loop-j-init : goal.loop-j-init
 loop-j-init c = let a = c.args in (omega arith, refl, store_none (λ (i : ℕ). two_bit_byte a.codes.now (a.m + i)) a.m a.out.now)
 
 pub packed-requires : goal.packed-requires
-packed-requires c = 
+packed-requires c =
     let k = 4 * (c.args.m + c.loop-j.j) in
     let below = c.requires.by_index in (
       below k (omega arith) (omega arith),
@@ -26,7 +26,7 @@ packed-requires c =
     )
 
 pub loop-j-preserved : goal.loop-j-preserved
-loop-j-preserved c = 
+loop-j-preserved c =
     let a = c.args in
     let l = c.loop-j in
     let p = c.packed in
@@ -48,7 +48,7 @@ pub shape_of-out : goal.shape_of-out
 shape_of-out c = c.loop-j.invariant.1
 
 pub returns : goal.returns
-returns c = 
+returns c =
     let l = c.loop-j in
     let a = c.args in
     let e : l.j ≡ a.n = omega arith in

@@ -11,5 +11,8 @@ pub returns-then-next-k : goal.returns-then-next-k
 returns-then-next-k c = record { value = sym (get_or-eq_default c.args.next.now 31 c.if-next-k.true); small = lit< tt }
 
 pub returns : goal.returns
-returns c = record { value = c.wide.ensures.value ∙ code_inside c.args.next.now
-      c.args.k (omega arith); small = c.wide.ensures.small }
+returns c = record {
+  value = c.wide.ensures.value ∙ code_inside c.args.next.now
+      c.args.k (omega arith);
+  small = c.wide.ensures.small;
+}

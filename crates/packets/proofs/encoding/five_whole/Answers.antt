@@ -6,7 +6,8 @@ use borrow.Author.Rules.{rules}
 use Rattle.packets.proofs.encoding.five_whole.Goals as goal
 
 pub returns : goal.returns
-returns c = let cs = c.args.next.now in record { value = five_sum cs c.wide.result
+returns c = let cs = c.args.next.now in record {
+  value = five_sum cs c.wide.result
       c.wide-2.result
       c.wide-3.result c.wide-4.result
       c.wide-5.result c.wide-6.result
@@ -23,7 +24,8 @@ returns c = let cs = c.args.next.now in record { value = five_sum cs c.wide.resu
         c.requires,
       )))
       (c.wide-6.ensures.value ∙ code_inside cs 5
-      (omega (arith, c.requires))); small = omega (
+      (omega (arith, c.requires)));
+  small = omega (
     arith,
     c.wide.ensures.small,
     c.wide-2.ensures.small,
@@ -31,4 +33,5 @@ returns c = let cs = c.args.next.now in record { value = five_sum cs c.wide.resu
     c.wide-4.ensures.small,
     c.wide-5.ensures.small,
     c.wide-6.ensures.small,
-  ) }
+  );
+}

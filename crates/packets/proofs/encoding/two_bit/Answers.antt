@@ -29,7 +29,8 @@ four_at-requires-4 c = omega (
 
 pub returns : goal.returns
 returns c =
-    let moved : ℕ → ℕ = λ n. n * 0x40100401 / 16777216 % 256 in record { value = bases-sum c.args.next.now
+    let moved : ℕ → ℕ = λ n. n * 0x40100401 / 16777216 % 256 in record {
+      value = bases-sum c.args.next.now
           (c.requires)
           c.four_bases.result c.four_bases-2.result
           c.four_bases-3.result c.four_bases-4.result
@@ -37,10 +38,12 @@ returns c =
           c.four_at.ensures.value)
           (c.four_bases-2.ensures.value ∙ ap moved c.four_at-2.ensures.value)
           (c.four_bases-3.ensures.value ∙ ap moved c.four_at-3.ensures.value)
-          (c.four_bases-4.ensures.value ∙ ap moved c.four_at-4.ensures.value); small = omega (
+          (c.four_bases-4.ensures.value ∙ ap moved c.four_at-4.ensures.value);
+      small = omega (
         arith,
         c.four_bases.ensures.small,
         c.four_bases-2.ensures.small,
         c.four_bases-3.ensures.small,
         c.four_bases-4.ensures.small,
-      ) }
+      );
+    }

@@ -8,6 +8,6 @@ use borrow.Author.Rules.{rules}
 use Rattle.sequence.proofs.bases.are_proteins.Goals as goal
 
 pub returns : goal.returns
-returns c = 
+returns c =
     let a = c.args in
     ap (λ (n : ℕ). leb n most_protein_byte) c.largest_byte.ensures ∙ sym (every-most (byte_from a.sequence.now a.start) most_protein_byte a.l)

@@ -17,12 +17,12 @@ pub sixteen_codes-codes-requires : goal.sixteen_codes-codes-requires
 sixteen_codes-codes-requires c = (c.requires.0, c.requires.1)
 
 pub loop-j-init : goal.loop-j-init
-loop-j-init c = 
+loop-j-init c =
     let a = c.args in
     (omega arith, refl, store_none (λ (i : ℕ). protein_code (byte_from a.sequence.now a.start (a.k + i))) a.k a.out.now)
 
 pub loop-j-preserved : goal.loop-j-preserved
-loop-j-preserved c = 
+loop-j-preserved c =
     let a = c.args in
     let l = c.loop-j in
     let f : ℕ → ℕ = λ i. protein_code (byte_from a.sequence.now a.start (a.k + i)) in

@@ -13,7 +13,7 @@ use borrow.Author.Rules.{rules}
 use Rattle.sequence.proofs.bases.sixteen_codes.Goals as goal
 
 pub loop-i-init : goal.loop-i-init
-loop-i-init c = 
+loop-i-init c =
     let a = c.args in
     (omega arith, refl, store_none (λ (i : ℕ). protein_code (byte_from a.sequence.now a.start (a.k + i))) 0 _)
 
@@ -21,7 +21,7 @@ pub protein_code-requires : goal.protein_code-requires
 protein_code-requires c = c.requires.1 c.loop-i.i (omega arith)
 
 pub loop-i-preserved : goal.loop-i-preserved
-loop-i-preserved c = 
+loop-i-preserved c =
     let a = c.args in
     let l = c.loop-i in
     let f : ℕ → ℕ = λ i. protein_code (byte_from a.sequence.now a.start (a.k + i)) in (
@@ -31,7 +31,7 @@ loop-i-preserved c =
     )
 
 pub returns : goal.returns
-returns c = 
+returns c =
     let l = c.loop-i in
     let a = c.args in
     let f : ℕ → ℕ = λ i. protein_code (byte_from a.sequence.now a.start (a.k + i)) in

@@ -16,7 +16,7 @@ pub loop-k-init : goal.loop-k-init
 loop-k-init c = (omega arith, omega arith, refl, λ d h e. e)
 
 pub loop-k-preserved : goal.loop-k-preserved
-loop-k-preserved c = 
+loop-k-preserved c =
     let a = c.args in
     let l = c.loop-k in
     let s = a.sequence.now in
@@ -35,7 +35,7 @@ pub shape_of-out : goal.shape_of-out
 shape_of-out c = c.loop-k.invariant.2 ∙ c.write_whole.auto.out
 
 pub returns : goal.returns
-returns c = 
+returns c =
     let a = c.args in
     let l = c.loop-k in
     let x = c.write_whole in

@@ -29,7 +29,7 @@ pub bounds-out-m-in-loop-m-3 : goal.bounds-out-m-in-loop-m-3
 bounds-out-m-in-loop-m-3 c = simp length-set (omega arith)
 
 pub loop-m-preserved : goal.loop-m-preserved
-loop-m-preserved c = 
+loop-m-preserved c =
     let a = c.args in
     let l = c.loop-m in
     let four = c.bases-four.result in

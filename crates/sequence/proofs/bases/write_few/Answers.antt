@@ -12,7 +12,7 @@ use borrow.Author.Rules.{rules}
 use Rattle.sequence.proofs.bases.write_few.Goals as goal
 
 pub loop-k-init : goal.loop-k-init
-loop-k-init c = 
+loop-k-init c =
     let a = c.args in
     (omega arith, refl, store_none (λ (k : ℕ). protein_code (byte_from a.sequence.now a.start k)) 0 a.out.now)
 
@@ -20,7 +20,7 @@ pub protein_code-requires : goal.protein_code-requires
 protein_code-requires c = c.requires.1 c.loop-k.k (omega arith)
 
 pub loop-k-preserved : goal.loop-k-preserved
-loop-k-preserved c = 
+loop-k-preserved c =
     let a = c.args in
     let l = c.loop-k in
     let f : ℕ → ℕ = λ k. protein_code (byte_from a.sequence.now a.start k) in (

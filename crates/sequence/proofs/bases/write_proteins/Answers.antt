@@ -20,7 +20,7 @@ pub returns-then-l-lt16 : goal.returns-then-l-lt16
 returns-then-l-lt16 c = c.write_few.ensures
 
 pub loop-k-init : goal.loop-k-init
-loop-k-init c = 
+loop-k-init c =
     let residue : (k : ℕ) → ℕ = λ (k : ℕ). protein_code (byte_from c.args.sequence.now c.args.start k) in
     (omega arith, refl, store_none (residue) 0 c.args.out.now)
 
@@ -30,7 +30,7 @@ put_sixteen-requires c = let l = c.loop-k in
     (omega (arith, pre.0), λ i h. pre.1 (l.k + i) (omega arith), omega (arith, pre.2))
 
 pub loop-k-preserved : goal.loop-k-preserved
-loop-k-preserved c = 
+loop-k-preserved c =
     let residue : (k : ℕ) → ℕ = λ (k : ℕ). protein_code (byte_from c.args.sequence.now c.args.start k) in
     let l = c.loop-k in (
       omega arith,
@@ -45,7 +45,7 @@ put_sixteen-requires-2 c = let a = c.args in
     (omega (arith, pre.0), λ i h. pre.1 (a.l - 16 + i) (omega arith), omega (arith, pre.2))
 
 pub returns : goal.returns
-returns c = 
+returns c =
     let residue : (k : ℕ) → ℕ = λ (k : ℕ). protein_code (byte_from c.args.sequence.now c.args.start k) in
     let l = c.loop-k in
     let last = c.args.l - 16 in

@@ -28,7 +28,7 @@ entries_fit-requires c = let a = c.args in
     (w.ensures.either, entry_in_file a.sequence.now a.place a.end w.result n.result t (omega arith) w.ensures.value n.ensures)
 
 pub returns-then-not-entries_fit : goal.returns-then-not-entries_fit
-returns-then-not-entries_fit c = 
+returns-then-not-entries_fit c =
     let IsTable : Bool = is_table c.args.sequence.now c.args.place c.args.end in
     let Fit : Bool = every (entry_fits c.args.sequence.now (c.args.place + 4) (entry_width c.args.sequence.now c.args.place) c.args.l)
     (entry_count c.args.sequence.now c.args.place c.args.end) in
@@ -37,7 +37,7 @@ returns-then-not-entries_fit c =
     rw (table, sym (fit) ∙ c.if-not-entries_fit.true)
 
 pub returns : goal.returns
-returns c = 
+returns c =
     let IsTable : Bool = is_table c.args.sequence.now c.args.place c.args.end in
     let Fit : Bool = every (entry_fits c.args.sequence.now (c.args.place + 4) (entry_width c.args.sequence.now c.args.place) c.args.l)
     (entry_count c.args.sequence.now c.args.place c.args.end) in

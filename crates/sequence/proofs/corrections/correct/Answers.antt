@@ -16,7 +16,7 @@ pub correction_at-c-requires : goal.correction_at-c-requires
 correction_at-c-requires c = (c.requires.fact.0, c.requires.fact.1 _ c.loop-j-test.true)
 
 pub paint-requires : goal.paint-requires
-paint-requires c = 
+paint-requires c =
     let x = c.correction_at-c in
     let h = c.requires.by_index _ c.loop-j-test.true in
     let u = ap (λ (y : Correction). y.start) x.ensures.value in
@@ -25,7 +25,7 @@ paint-requires c =
     omega arith
 
 pub loop-j-preserved : goal.loop-j-preserved
-loop-j-preserved c = 
+loop-j-preserved c =
     let a = c.args in
     let l = c.loop-j in
     let x = c.correction_at-c in

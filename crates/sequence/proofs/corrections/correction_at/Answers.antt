@@ -48,7 +48,7 @@ nonzero_rem-result-2 c = power_positive (2 * c.args.w - 4) (repeat_shift c.args.
 
 pub overflow_add-result : goal.overflow_add-result
 unfolding correction_of
-overflow_add-result c = 
+overflow_add-result c =
     let a = c.args in
     let x = c.entry_at-entry in
     let s : x.result / 2 ^ (6 * a.w) % 2 ^ (2 * a.w - 4) + 1 ≤ 4096 = (correction_small a.w x.result c.requires.0
@@ -57,7 +57,7 @@ overflow_add-result c =
 
 pub returns : goal.returns
 unfolding correction_at correction_of
-returns c = 
+returns c =
     let a = c.args in
     let o = power_shifted (6 * a.w) (offset_shift a.w c.requires.0) in
     let r = power_shifted (2 * a.w - 4) (repeat_shift a.w c.requires.0).1 in

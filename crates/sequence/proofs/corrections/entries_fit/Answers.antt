@@ -17,7 +17,7 @@ pub correction_at-c-requires : goal.correction_at-c-requires
 correction_at-c-requires c = (c.requires.0, c.requires.1 _ c.loop-j-test.true)
 
 pub returns-then-c-low : goal.returns-then-c-low
-returns-then-c-low c = 
+returns-then-c-low c =
     let a = c.args in
     let l = c.loop-j in
     let s = a.sequence.now in
@@ -26,7 +26,7 @@ returns-then-c-low c =
     sym (every-fails (entry_fits s a.entries a.w a.l) a.n l.j c.loop-j-test.true e)
 
 pub returns-then-l-end : goal.returns-then-l-end
-returns-then-l-end c = 
+returns-then-l-end c =
     let a = c.args in
     let l = c.loop-j in
     let s = a.sequence.now in
@@ -35,7 +35,7 @@ returns-then-l-end c =
     sym (every-fails (entry_fits s a.entries a.w a.l) a.n l.j c.loop-j-test.true e)
 
 pub loop-j-preserved : goal.loop-j-preserved
-loop-j-preserved c = 
+loop-j-preserved c =
     let a = c.args in
     let l = c.loop-j in
     let s = a.sequence.now in
@@ -48,7 +48,7 @@ loop-j-preserved c =
     )
 
 pub returns : goal.returns
-returns c = 
+returns c =
     let a = c.args in
     let l = c.loop-j in
     sym (every-done (entry_fits a.sequence.now a.entries a.w a.l) l.j a.n l.invariant.0 c.loop-j-test.false l.invariant.2)

@@ -8,7 +8,7 @@ use borrow.Author.Rules.{rules}
 use Rattle.sequence.proofs.corrections.entry_at.Goals as goal
 
 pub returns-then-w-eq4 : goal.returns-then-w-eq4
-returns-then-w-eq4 c = 
+returns-then-w-eq4 c =
     let a = c.args in
     let e = c.if-w-eq4.true in
     record { value = rw e (c.be_u32.ensures ∙ part_unsigned 4 a.sequence.now a.at (a.at + 4) refl); small = rw e (omega arith) }
@@ -21,7 +21,7 @@ slice_bounds-be_u64-end c = let e = width_eight c.args.w c.requires.0 c.if-w-eq4
     (arith, c.requires.1)
 
 pub returns : goal.returns
-returns c = 
+returns c =
     let a = c.args in
     let e : a.w ≡ 8 = width_eight a.w c.requires.0 c.if-w-eq4.false in
     record { value = rw e (c.be_u64.ensures ∙ part_unsigned 8 a.sequence.now a.at (a.at + 8) refl); small = rw e (omega arith) }

@@ -14,13 +14,13 @@ returns-then-end-place c = simp (ne_eqb _ _ c.if-place-end.false, lt-leb _ _ c.i
 
 pub returns-then-place-words : goal.returns-then-place-words
 unfolding is_table
-returns-then-place-words c = 
+returns-then-place-words c =
     let if1 = c.if-place-end in
     simp (← c.be_u32-word.ensures, ne_eqb _ _ if1.false, le-leb _ _ c.if-end-place.false, ne_eqb _ _ c.if-place-words.true)
 
 pub returns-then-word-lt2147483648 : goal.returns-then-word-lt2147483648
 unfolding is_table
-returns-then-word-lt2147483648 c = 
+returns-then-word-lt2147483648 c =
     let if1 = c.if-place-end in
     let if2 = c.if-end-place in
     simp (
@@ -34,7 +34,7 @@ returns-then-word-lt2147483648 c =
 
 pub returns : goal.returns
 unfolding is_table
-returns c = 
+returns c =
     let if1 = c.if-place-end in
     let if2 = c.if-end-place in
     simp (

@@ -19,7 +19,7 @@ pub fill-requires-2 : goal.fill-requires-2
 fill-requires-2 c = omega (arith, c.requires)
 
 pub returns : goal.returns
-returns c = 
+returns c =
     let a = c.args in
     let f : ℕ → ℕ = λ _. a.code in
     let place = a.start + (a.n - 8) in

@@ -10,7 +10,7 @@ pub returns-then-e-2 : goal.returns-then-e-2
 returns-then-e-2 c = rw (lt-ltb _ _ c.if-e.false, lt-leb _ _ c.if-e-2.true)
 
 pub returns-then-sequence-e : goal.returns-then-sequence-e
-returns-then-sequence-e c = 
+returns-then-sequence-e c =
     rw (
       lt-ltb _ _ c.if-e.false,
       le-leb _ _ c.if-e-2.false,
@@ -18,7 +18,7 @@ returns-then-sequence-e c =
     )
 
 pub returns : goal.returns
-returns c = 
+returns c =
     rw (
       lt-ltb _ _ c.if-e.false,
       le-leb _ _ c.if-e-2.false,

@@ -10,7 +10,7 @@ pub returns-then-end-start : goal.returns-then-end-start
 returns-then-end-start c = rw (le-leb _ _ c.if-start-lt1.false, lt-leb _ _ c.if-end-start.true)
 
 pub returns-then-sequence-end : goal.returns-then-sequence-end
-returns-then-sequence-end c = 
+returns-then-sequence-end c =
     rw (
       le-leb _ _ c.if-start-lt1.false,
       le-leb _ _ c.if-end-start.false,
@@ -18,7 +18,7 @@ returns-then-sequence-end c =
     )
 
 pub returns-then-sequence-start-ne0 : goal.returns-then-sequence-start-ne0
-returns-then-sequence-start-ne0 c = 
+returns-then-sequence-start-ne0 c =
     rw (
       le-leb _ _ c.if-start-lt1.false,
       le-leb _ _ c.if-end-start.false,
@@ -27,7 +27,7 @@ returns-then-sequence-start-ne0 c =
     )
 
 pub returns-then-sequence-end-ne0 : goal.returns-then-sequence-end-ne0
-returns-then-sequence-end-ne0 c = 
+returns-then-sequence-end-ne0 c =
     rw (
       le-leb _ _ c.if-start-lt1.false,
       le-leb _ _ c.if-end-start.false,
@@ -37,7 +37,7 @@ returns-then-sequence-end-ne0 c =
     )
 
 pub returns : goal.returns
-returns c = 
+returns c =
     rw (
       le-leb _ _ c.if-start-lt1.false,
       le-leb _ _ c.if-end-start.false,

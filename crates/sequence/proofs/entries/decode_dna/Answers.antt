@@ -16,19 +16,19 @@ use Rattle.sequence.proofs.entries.decode_dna.Goals as goal
 -- the places passed
 
 pub returns-in-Refused : goal.returns-in-Refused
-returns-in-Refused c = 
+returns-in-Refused c =
     let sequence : List ℕ = c.args.sequence.now in
     let entry : Entry = c.args.e in
     let room : ℕ = length c.args.out.now in
     record { value = dna-refused (sequence) (entry) (room) _ c.check_dna_places.ensures _ c.in-Refused.is; out_after = refl }
 
 pub overflow_cast-e : goal.overflow_cast-e
-overflow_cast-e c = 
+overflow_cast-e c =
     let sequence : List ℕ = c.args.sequence.now in
     let entry : Entry = c.args.e in
     let room : ℕ = length c.args.out.now in
     let Passed : Type 0 = DnaPassed (sequence) (entry) (room) in
-    let passed : Passed = 
+    let passed : Passed =
     dna_passed (sequence) (entry) (room) _ c.check_dna_places.ensures c.in_default.is in
     let low = (passed).rises in
     let middle = (passed).range in
@@ -36,29 +36,29 @@ overflow_cast-e c =
     omega arith
 
 pub overflow_cast-e-2 : goal.overflow_cast-e-2
-overflow_cast-e-2 c = 
+overflow_cast-e-2 c =
     let sequence : List ℕ = c.args.sequence.now in
     let entry : Entry = c.args.e in
     let room : ℕ = length c.args.out.now in
     let Passed : Type 0 = DnaPassed (sequence) (entry) (room) in
-    let passed : Passed = 
+    let passed : Passed =
     dna_passed (sequence) (entry) (room) _ c.check_dna_places.ensures c.in_default.is in
     let middle = (passed).range in
     let high = (passed).inside in
     omega arith
 
 pub check_table-requires : goal.check_table-requires
-check_table-requires c = 
+check_table-requires c =
     let sequence : List ℕ = c.args.sequence.now in
     let entry : Entry = c.args.e in
     let room : ℕ = length c.args.out.now in
     let Passed : Type 0 = DnaPassed (sequence) (entry) (room) in
-    let passed : Passed = 
+    let passed : Passed =
     dna_passed (sequence) (entry) (room) _ c.check_dna_places.ensures c.in_default.is in
     ((passed).range, (passed).inside, search rules)
 
 pub returns-in-Refused-check_table : goal.returns-in-Refused-check_table
-returns-in-Refused-check_table c = 
+returns-in-Refused-check_table c =
     let sequence : List ℕ = c.args.sequence.now in
     let entry : Entry = c.args.e in
     let room : ℕ = length c.args.out.now in
@@ -71,7 +71,7 @@ returns-in-Refused-check_table c =
     record { value = answer; out_after = refl }
 
 pub returns-then-out-l : goal.returns-then-out-l
-returns-then-out-l c = 
+returns-then-out-l c =
     let sequence : List ℕ = c.args.sequence.now in
     let entry : Entry = c.args.e in
     let room : ℕ = length c.args.out.now in
@@ -84,12 +84,12 @@ returns-then-out-l c =
     record { value = answer; out_after = refl }
 
 pub write_residues-requires : goal.write_residues-requires
-write_residues-requires c = 
+write_residues-requires c =
     let sequence : List ℕ = c.args.sequence.now in
     let entry : Entry = c.args.e in
     let room : ℕ = length c.args.out.now in
     let Passed : Type 0 = DnaPassed (sequence) (entry) (room) in
-    let passed : Passed = 
+    let passed : Passed =
     dna_passed (sequence) (entry) (room) _ c.check_dna_places.ensures c.in_default.is in
     let check-table = c.check_table in
     let p = passed in
@@ -100,7 +100,7 @@ write_residues-requires c =
     record { l_in_bounds = (omega arith, middle, high, search rules, search rules); all_hold = h }
 
 pub returns : goal.returns
-returns c = 
+returns c =
     let sequence : List ℕ = c.args.sequence.now in
     let entry : Entry = c.args.e in
     let room : ℕ = length c.args.out.now in

@@ -6,7 +6,7 @@ use borrow.Author.Rules.{rules}
 use Rattle.sequence.proofs.entries.write_residues.Goals as goal
 
 pub correct-requires : goal.correct-requires
-correct-requires c = 
+correct-requires c =
     let a = c.args in
     let s = a.sequence.now in
     let w = c.entry_width-w in
@@ -15,7 +15,7 @@ correct-requires c =
     let k = c.write_bases.auto.out in record { fact = (w.ensures.either, table-entries s a.place a.end a.l w.result n.result h w.ensures.value n.ensures (omega arith)); by_index = λ j i. let e = table-ends s a.place a.end a.l w.result n.result h w.ensures.value n.ensures j i in omega arith }
 
 pub returns : goal.returns
-returns c = 
+returns c =
     let p = c.requires in
     let write-bases = c.write_bases in
     let a = c.args in

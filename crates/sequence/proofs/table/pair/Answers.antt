@@ -4,7 +4,7 @@ use borrow.Author.Rules.{rules}
 use Rattle.sequence.proofs.table.pair.Goals as goal
 
 pub returns : goal.returns
-returns c = 
+returns c =
     let a = c.args in
     let f = c.ranges in
     pair_codes a.table.now a.first a.second c.two_entries.result c.requires f.first.fits f.second.fits c.two_entries.ensures

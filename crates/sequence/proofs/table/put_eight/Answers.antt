@@ -11,17 +11,17 @@ use borrow.Author.Rules.{rules}
 use Rattle.sequence.proofs.table.put_eight.Goals as goal
 
 pub loop-i-init : goal.loop-i-init
-loop-i-init c = 
+loop-i-init c =
     let a = c.args in
     (omega arith, refl, store_none (base_at a.sequence.now a.at) a.place a.out.now)
 
 pub put_pair-requires : goal.put_pair-requires
-put_pair-requires c = 
+put_pair-requires c =
     let pre = c.requires in
     (omega (arith, pre.0), omega (arith, pre.1), pre.2)
 
 pub loop-i-preserved : goal.loop-i-preserved
-loop-i-preserved c = 
+loop-i-preserved c =
     let a = c.args in
     let l = c.loop-i in (
       omega arith,
@@ -31,7 +31,7 @@ loop-i-preserved c =
     )
 
 pub returns : goal.returns
-returns c = 
+returns c =
     let l = c.loop-i in
     let e : l.i ≡ 4 = omega arith in
     rw e at l.invariant.2

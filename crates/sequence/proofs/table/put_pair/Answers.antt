@@ -6,7 +6,7 @@ use borrow.Author.Rules.{rules}
 use Rattle.sequence.proofs.table.put_pair.Goals as goal
 
 pub returns : goal.returns
-returns c = 
+returns c =
     let a = c.args in
     let two = c.pair-two in
     part_stored 8 a.place two.result a.out.now _ _ (omega (arith, c.requires.1)) (two.ensures ∙ pair_from a.sequence.now a.at)

@@ -7,6 +7,6 @@ use Rattle.sequence.proofs.table.write_by_table.Goals as goal
 
 pub write_eights-requires : goal.write_eights-requires
 unfolding digits
-write_eights-requires c = 
+write_eights-requires c =
     let pre = c.requires in
     (pre.0, pre.1, pre.2, table-holds _ refl)

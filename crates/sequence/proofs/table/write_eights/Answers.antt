@@ -11,17 +11,17 @@ use borrow.Author.Rules.{rules}
 use Rattle.sequence.proofs.table.write_eights.Goals as goal
 
 pub loop-m-init : goal.loop-m-init
-loop-m-init c = 
+loop-m-init c =
     let a = c.args in
     (omega arith, refl, store_none (base_at a.sequence.now a.start) 0 a.out.now)
 
 pub put_eight-requires : goal.put_eight-requires
-put_eight-requires c = 
+put_eight-requires c =
     let pre = c.requires in
     (omega (arith, pre.1), omega (arith, pre.2), pre.3)
 
 pub loop-m-preserved : goal.loop-m-preserved
-loop-m-preserved c = 
+loop-m-preserved c =
     let a = c.args in
     let l = c.loop-m in (
       omega arith,
@@ -31,12 +31,12 @@ loop-m-preserved c =
     )
 
 pub put_eight-requires-2 : goal.put_eight-requires-2
-put_eight-requires-2 c = 
+put_eight-requires-2 c =
     let pre = c.requires in
     (omega (arith, pre.1), omega (arith, pre.2), pre.3)
 
 pub returns : goal.returns
-returns c = 
+returns c =
     let a = c.args in
     let l = c.loop-m in
     let last = a.count - 8 in

@@ -10,21 +10,21 @@ use borrow.Author.Rules.{rules}
 use Rattle.volume.proofs.fixed.check_index.Goals as goal
 
 pub overflow_add-title : goal.overflow_add-title
-overflow_add-title c = 
+overflow_add-title c =
     let a = c.args in
     let n = numbers_are a.index.now a.x (c.requires) in
     let t = tables_near a.index.now in
     omega (arith, n.title_is, t.headers_near)
 
 pub overflow_add-at : goal.overflow_add-at
-overflow_add-at c = 
+overflow_add-at c =
     let a = c.args in
     let n = numbers_are a.index.now a.x (c.requires) in
     let t = tables_near a.index.now in
     omega (arith, n.title_is, t.headers_near)
 
 pub overflow_add-at-2 : goal.overflow_add-at-2
-overflow_add-at-2 c = 
+overflow_add-at-2 c =
     let a = c.args in
     let n = numbers_are a.index.now a.x (c.requires) in
     let t = tables_near a.index.now in
@@ -35,13 +35,13 @@ check_title-requires c = omega (arith, (numbers_are _ _ (c.requires)).title_is)
 
 pub returns-in-Refused : goal.returns-in-Refused
 unfolding index_rules
-returns-in-Refused c = 
+returns-in-Refused c =
     let index = c.args.index.now in
     sym (refused-first (title_rules index) (timestamp_rules index ++ count_rules index ++ table_rules index) _ _
     c.check_title.ensures c.in-Refused.is Refused Passed)
 
 pub check_timestamp-requires : goal.check_timestamp-requires
-check_timestamp-requires c = 
+check_timestamp-requires c =
     let a = c.args in
     let n = numbers_are a.index.now a.x (c.requires) in
     let t = tables_near a.index.now in
@@ -49,7 +49,7 @@ check_timestamp-requires c =
 
 pub returns-in-Refused-check_timestamp : goal.returns-in-Refused-check_timestamp
 unfolding index_rules
-returns-in-Refused-check_timestamp c = 
+returns-in-Refused-check_timestamp c =
     let index = c.args.index.now in
     sym (passed_first (title_rules index) (timestamp_rules index ++ count_rules index ++ table_rules index) _
     c.check_title.ensures
@@ -58,7 +58,7 @@ returns-in-Refused-check_timestamp c =
     c.in-Refused-check_timestamp.is Refused Passed)
 
 pub check_counts-requires : goal.check_counts-requires
-check_counts-requires c = 
+check_counts-requires c =
     let a = c.args in
     let n = numbers_are a.index.now a.x (c.requires) in
     let t = tables_near a.index.now in
@@ -66,7 +66,7 @@ check_counts-requires c =
 
 pub returns-in-Refused-check_counts : goal.returns-in-Refused-check_counts
 unfolding index_rules
-returns-in-Refused-check_counts c = 
+returns-in-Refused-check_counts c =
     let index = c.args.index.now in
     sym (passed_first (title_rules index) (timestamp_rules index ++ count_rules index ++ table_rules index) _
     c.check_title.ensures
@@ -84,7 +84,7 @@ check_tables-requires c = c.tables_end.ensures
 
 pub returns : goal.returns
 unfolding index_rules
-returns c = 
+returns c =
     let index = c.args.index.now in
     c.check_tables.ensures
     ∙ sym (passed_first (title_rules index) (timestamp_rules index ++ count_rules index ++ table_rules index) _

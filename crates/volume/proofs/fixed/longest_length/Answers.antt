@@ -9,6 +9,6 @@ use Rattle.volume.proofs.fixed.longest_length.Goals as goal
 
 pub returns : goal.returns
 unfolding longest
-returns c = 
+returns c =
     let a = c.args in
     c.natural_at.ensures.value ∙ ap (λ (x : ℕ). to_nat (signed_at big 4 a.index.now (x + 12))) c.timestamp_end.ensures.value

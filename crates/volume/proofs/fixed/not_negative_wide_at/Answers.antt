@@ -9,6 +9,6 @@ use borrow.Author.Rules.{rules}
 use Rattle.volume.proofs.fixed.not_negative_wide_at.Goals as goal
 
 pub returns : goal.returns
-returns c = 
+returns c =
     ap (le_z (pos 0)) (to_z-of_z w64 c.le_i64.result (record { sfits = c.le_i64.type_inv })) ∙ at_least_zero c.le_i64.result
     ∙ ap non_neg c.le_i64.ensures

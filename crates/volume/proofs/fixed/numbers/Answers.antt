@@ -4,7 +4,7 @@ use borrow.Author.Rules.{rules}
 use Rattle.volume.proofs.fixed.numbers.Goals as goal
 
 pub returns : goal.returns
-returns c = 
+returns c =
     numbers_read c.args.index.now _ _ _ _ _ _
     c.volume_type.ensures c.title_length-title.ensures.value
     c.natural_at-timestamp.ensures.value

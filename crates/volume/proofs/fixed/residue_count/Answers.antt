@@ -9,6 +9,6 @@ use Rattle.volume.proofs.fixed.residue_count.Goals as goal
 
 pub returns : goal.returns
 unfolding residue_count
-returns c = 
+returns c =
     let a = c.args in
     c.natural_wide_at.ensures ∙ ap (λ (x : ℕ). to_nat (signed_at little 8 a.index.now (x + 4))) c.timestamp_end.ensures.value

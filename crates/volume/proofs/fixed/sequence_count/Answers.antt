@@ -9,6 +9,9 @@ use Rattle.volume.proofs.fixed.sequence_count.Goals as goal
 
 pub returns : goal.returns
 unfolding sequences
-returns c = 
-    let a = c.args in record { value = c.natural_at.ensures.value
-          ∙ ap (λ (x : ℕ). to_nat (signed_at big 4 a.index.now x)) c.timestamp_end.ensures.value; small = c.natural_at.ensures.small }
+returns c =
+    let a = c.args in record {
+      value = c.natural_at.ensures.value
+          ∙ ap (λ (x : ℕ). to_nat (signed_at big 4 a.index.now x)) c.timestamp_end.ensures.value;
+      small = c.natural_at.ensures.small;
+    }

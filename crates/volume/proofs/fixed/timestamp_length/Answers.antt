@@ -9,6 +9,6 @@ use Rattle.volume.proofs.fixed.timestamp_length.Goals as goal
 
 pub returns : goal.returns
 unfolding timestamp_length
-returns c = 
+returns c =
     let a = c.args in
     record { value = c.natural_at.ensures.value ∙ ap (λ (x : ℕ). to_nat (signed_at big 4 a.index.now x)) c.title_end.ensures.value; small = c.natural_at.ensures.small }

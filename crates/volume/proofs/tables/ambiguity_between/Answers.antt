@@ -14,7 +14,7 @@ pub loop-i-init : goal.loop-i-init
 loop-i-init c = (search rules, to_z-of_z w32 c.offset-low.result (record { sfits = c.offset-low.type_inv }) ∙ c.offset-low.ensures, refl)
 
 pub loop-i-preserved : goal.loop-i-preserved
-loop-i-preserved c = 
+loop-i-preserved c =
     let a = c.args in
     let l = c.loop-i in
     let middle = c.offset-middle in

@@ -9,7 +9,7 @@ use borrow.Author.Rules.{rules}
 use Rattle.volume.proofs.tables.check_contents.Goals as goal
 
 pub returns-in-Refused : goal.returns-in-Refused
-returns-in-Refused c = 
+returns-in-Refused c =
     let index = c.args.index.now in
     let sequence = c.args.sequence.now in
     let offsets = offset_rules index sequence c.args.header.now in
@@ -17,7 +17,7 @@ returns-in-Refused c =
     sym (refused-first offsets lengths _ _ c.check_offsets.ensures c.in-Refused.is Refused Passed)
 
 pub check_lengths-requires : goal.check_lengths-requires
-check_lengths-requires c = 
+check_lengths-requires c =
     let index = c.args.index.now in
     let sequence = c.args.sequence.now in
     let header = c.args.header.now in
@@ -25,7 +25,7 @@ check_lengths-requires c =
     (search rules, search rules, hold-second (header_offset_rules index header) (sequence_offset_rules index sequence) h)
 
 pub returns : goal.returns
-returns c = 
+returns c =
     let check-offsets = c.check_offsets in
     let index = c.args.index.now in
     let sequence = c.args.sequence.now in

@@ -22,7 +22,7 @@ pub loop-i-init : goal.loop-i-init
 loop-i-init c = (search rules, refl, refl, search rules)
 
 pub natural_place-start-requires : goal.natural_place-start-requires
-natural_place-start-requires c = 
+natural_place-start-requires c =
     let index : List ℕ = c.args.index.now in
     let sequence : List ℕ = c.args.sequence.now in
     let offsets : AllHold (dna_offset_rules (index) (sequence)) = c.requires.2 in
@@ -30,7 +30,7 @@ natural_place-start-requires c =
     (omega arith, start-read (index) (sequence) (offsets) _ (omega arith) _ (starts))
 
 pub natural_place-last-requires : goal.natural_place-last-requires
-natural_place-last-requires c = 
+natural_place-last-requires c =
     let index : List ℕ = c.args.index.now in
     let sequence : List ℕ = c.args.sequence.now in
     let offsets : AllHold (dna_offset_rules (index) (sequence)) = c.requires.2 in
@@ -38,40 +38,40 @@ natural_place-last-requires c =
     (omega arith, end_read (index) (sequence) (offsets) _ (omega arith) _ (ends))
 
 pub overflow_sub-last : goal.overflow_sub-last
-overflow_sub-last c = 
+overflow_sub-last c =
     let index : List ℕ = c.args.index.now in
     let sequence : List ℕ = c.args.sequence.now in
     let offsets : AllHold (dna_offset_rules (index) (sequence)) = c.requires.2 in
     let starts : c.sequence_table-s.result ≡ sequence_table (index) = c.sequence_table-s.ensures.value in
     let ends : c.ambiguity_table-a.result ≡ ambiguity_table (index) = c.ambiguity_table-a.ensures.value in
     let turn : DnaTurn (index) (sequence) c.loop-i.i
-    c.natural_place-start.result c.natural_place-last.result = 
+    c.natural_place-start.result c.natural_place-last.result =
     let below : c.loop-i.i < sequences (index) = omega arith in
     dna_turn (index) (sequence) (offsets) _ below _ _ _ _ (starts) (ends) c.natural_place-start.ensures.value c.natural_place-last.ensures.value in
     let low = (turn).rises in omega arith
 
 pub overflow_sub-len : goal.overflow_sub-len
-overflow_sub-len c = 
+overflow_sub-len c =
     let index : List ℕ = c.args.index.now in
     let sequence : List ℕ = c.args.sequence.now in
     let offsets : AllHold (dna_offset_rules (index) (sequence)) = c.requires.2 in
     let starts : c.sequence_table-s.result ≡ sequence_table (index) = c.sequence_table-s.ensures.value in
     let ends : c.ambiguity_table-a.result ≡ ambiguity_table (index) = c.ambiguity_table-a.ensures.value in
     let turn : DnaTurn (index) (sequence) c.loop-i.i
-    c.natural_place-start.result c.natural_place-last.result = 
+    c.natural_place-start.result c.natural_place-last.result =
     let below : c.loop-i.i < sequences (index) = omega arith in
     dna_turn (index) (sequence) (offsets) _ below _ _ _ _ (starts) (ends) c.natural_place-start.ensures.value c.natural_place-last.ensures.value in
     let low = (turn).rises in omega arith
 
 pub bounds-sequence-last : goal.bounds-sequence-last
-bounds-sequence-last c = 
+bounds-sequence-last c =
     let index : List ℕ = c.args.index.now in
     let sequence : List ℕ = c.args.sequence.now in
     let offsets : AllHold (dna_offset_rules (index) (sequence)) = c.requires.2 in
     let starts : c.sequence_table-s.result ≡ sequence_table (index) = c.sequence_table-s.ensures.value in
     let ends : c.ambiguity_table-a.result ≡ ambiguity_table (index) = c.ambiguity_table-a.ensures.value in
     let turn : DnaTurn (index) (sequence) c.loop-i.i
-    c.natural_place-start.result c.natural_place-last.result = 
+    c.natural_place-start.result c.natural_place-last.result =
     let below : c.loop-i.i < sequences (index) = omega arith in
     dna_turn (index) (sequence) (offsets) _ below _ _ _ _ (starts) (ends) c.natural_place-start.ensures.value c.natural_place-last.ensures.value in
     let low = (turn).rises in
@@ -79,14 +79,14 @@ bounds-sequence-last c =
     omega arith
 
 pub loop-i-preserved : goal.loop-i-preserved
-loop-i-preserved c = 
+loop-i-preserved c =
     let index : List ℕ = c.args.index.now in
     let sequence : List ℕ = c.args.sequence.now in
     let offsets : AllHold (dna_offset_rules (index) (sequence)) = c.requires.2 in
     let starts : c.sequence_table-s.result ≡ sequence_table (index) = c.sequence_table-s.ensures.value in
     let ends : c.ambiguity_table-a.result ≡ ambiguity_table (index) = c.ambiguity_table-a.ensures.value in
     let turn : DnaTurn (index) (sequence) c.loop-i.i
-    c.natural_place-start.result c.natural_place-last.result = 
+    c.natural_place-start.result c.natural_place-last.result =
     let below : c.loop-i.i < sequences (index) = omega arith in
     dna_turn (index) (sequence) (offsets) _ below _ _ _ _ (starts) (ends) c.natural_place-start.ensures.value c.natural_place-last.ensures.value in
     let x = turn in
@@ -98,7 +98,7 @@ loop-i-preserved c =
     )
 
 pub returns : goal.returns
-returns c = 
+returns c =
     let index : List ℕ = c.args.index.now in
     let sequence : List ℕ = c.args.sequence.now in
     let e : c.loop-i.i ≡ sequences (index) = omega arith in

@@ -12,7 +12,7 @@ pub check_header_offsets-requires : goal.check_header_offsets-requires
 check_header_offsets-requires c = omega (arith, two_tables c.args.index.now)
 
 pub returns-in-Refused : goal.returns-in-Refused
-returns-in-Refused c = 
+returns-in-Refused c =
     let a = c.args in
     let check-header-offsets = c.check_header_offsets in
     let index = a.index.now in
@@ -20,7 +20,7 @@ returns-in-Refused c =
     c.in-Refused.is Refused Passed)
 
 pub returns : goal.returns
-returns c = 
+returns c =
     let a = c.args in
     let check-header-offsets = c.check_header_offsets in
     let index = a.index.now in

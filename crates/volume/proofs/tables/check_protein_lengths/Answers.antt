@@ -43,11 +43,11 @@ natural_place-next-requires c = let a = c.args in
     (omega arith, protein-read a.index.now a.sequence.now p.2 _ sequence-table.ensures.value _ (omega arith))
 
 pub overflow_sub-end : goal.overflow_sub-end
-overflow_sub-end c = 
+overflow_sub-end c =
     let index : List ℕ = c.args.index.now in
     let sequence : List ℕ = c.args.sequence.now in
     let turn : ProteinTurn (index) (sequence) c.loop-i.i c.loop-i.low
-    c.natural_place-next.result = 
+    c.natural_place-next.result =
     let below : c.loop-i.i < sequences (index) = omega arith in
     protein_turn (index) (sequence) c.requires.2 _
     c.sequence_table-table.ensures.value _ _ _ below c.loop-i.invariant.1
@@ -55,11 +55,11 @@ overflow_sub-end c =
     let low = (turn).rises in omega arith
 
 pub bounds-sequence-end : goal.bounds-sequence-end
-bounds-sequence-end c = 
+bounds-sequence-end c =
     let index : List ℕ = c.args.index.now in
     let sequence : List ℕ = c.args.sequence.now in
     let turn : ProteinTurn (index) (sequence) c.loop-i.i c.loop-i.low
-    c.natural_place-next.result = 
+    c.natural_place-next.result =
     let below : c.loop-i.i < sequences (index) = omega arith in
     protein_turn (index) (sequence) c.requires.2 _
     c.sequence_table-table.ensures.value _ _ _ below c.loop-i.invariant.1
@@ -69,11 +69,11 @@ bounds-sequence-end c =
     omega arith
 
 pub returns-then-sequence-end-ne0 : goal.returns-then-sequence-end-ne0
-returns-then-sequence-end-ne0 c = 
+returns-then-sequence-end-ne0 c =
     let index : List ℕ = c.args.index.now in
     let sequence : List ℕ = c.args.sequence.now in
     let turn : ProteinTurn (index) (sequence) c.loop-i.i c.loop-i.low
-    c.natural_place-next.result = 
+    c.natural_place-next.result =
     let below : c.loop-i.i < sequences (index) = omega arith in
     protein_turn (index) (sequence) c.requires.2 _
     c.sequence_table-table.ensures.value _ _ _ below c.loop-i.invariant.1
@@ -83,11 +83,11 @@ returns-then-sequence-end-ne0 c =
     rw (first, every-fails (nul_behind (index) (sequence)) (sequences (index)) c.loop-i.i (omega arith) bad)
 
 pub overflow_sub-len : goal.overflow_sub-len
-overflow_sub-len c = 
+overflow_sub-len c =
     let index : List ℕ = c.args.index.now in
     let sequence : List ℕ = c.args.sequence.now in
     let turn : ProteinTurn (index) (sequence) c.loop-i.i c.loop-i.low
-    c.natural_place-next.result = 
+    c.natural_place-next.result =
     let below : c.loop-i.i < sequences (index) = omega arith in
     protein_turn (index) (sequence) c.requires.2 _
     c.sequence_table-table.ensures.value _ _ _ below c.loop-i.invariant.1
@@ -95,11 +95,11 @@ overflow_sub-len c =
     let low = (turn).rises in omega arith
 
 pub loop-i-preserved : goal.loop-i-preserved
-loop-i-preserved c = 
+loop-i-preserved c =
     let index : List ℕ = c.args.index.now in
     let sequence : List ℕ = c.args.sequence.now in
     let turn : ProteinTurn (index) (sequence) c.loop-i.i c.loop-i.low
-    c.natural_place-next.result = 
+    c.natural_place-next.result =
     let below : c.loop-i.i < sequences (index) = omega arith in
     protein_turn (index) (sequence) c.requires.2 _
     c.sequence_table-table.ensures.value _ _ _ below c.loop-i.invariant.1
@@ -115,7 +115,7 @@ loop-i-preserved c =
     )
 
 pub returns : goal.returns
-returns c = 
+returns c =
     let index : List ℕ = c.args.index.now in
     let sequence : List ℕ = c.args.sequence.now in
     let first : eqb (get_or c.args.sequence.now 0 0) 0 ≡ true = eq-eqb _ _ (sym c.byte.ensures ∙ c.if-byte-ne0.false) in

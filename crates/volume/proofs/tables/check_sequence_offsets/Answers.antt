@@ -12,7 +12,7 @@ pub returns-then-is_protein : goal.returns-then-is_protein
 returns-then-is_protein c = rw (sym c.is_protein.ensures ∙ c.if-is_protein.true) c.check_protein_offsets.ensures
 
 pub check_dna_offsets-requires : goal.check_dna_offsets-requires
-check_dna_offsets-requires c = 
+check_dna_offsets-requires c =
     omega (arith, third_table c.args.index.now (sym c.is_protein.ensures ∙ c.if-is_protein.false))
 
 pub returns : goal.returns

@@ -7,12 +7,12 @@ use borrow.Author.Rules.{rules}
 use Rattle.volume.proofs.tables.check_stated.Goals as goal
 
 pub returns-then-sum-residue_count : goal.returns-then-sum-residue_count
-returns-then-sum-residue_count c = 
+returns-then-sum-residue_count c =
     let a = c.args in
     rw (ne_eqb _ _ (λ h. let g : a.sum ≡ residue_count a.index.now = h in c.if-sum-residue_count.true (omega arith)))
 
 pub returns-then-largest-longest_length : goal.returns-then-largest-longest_length
-returns-then-largest-longest_length c = 
+returns-then-largest-longest_length c =
     let index = c.args.index.now in
     rw (
       eq-eqb _ _ (let h : c.args.sum ≡ residue_count index = omega arith in h),
@@ -20,7 +20,7 @@ returns-then-largest-longest_length c =
     )
 
 pub returns : goal.returns
-returns c = 
+returns c =
     let index = c.args.index.now in
     rw (
       eq-eqb _ _ (let h : c.args.sum ≡ residue_count index = omega arith in h),

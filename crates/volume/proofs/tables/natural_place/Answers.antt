@@ -10,7 +10,7 @@ use Rattle.volume.proofs.tables.natural_place.Goals as goal
 
 pub returns : goal.returns
 unfolding offset_at
-returns c = 
+returns c =
     let index = c.args.index.now in
     let s = c.args.table + 4 * c.args.k in
     let e = c.be_u32.ensures ∙ part_unsigned 4 index s (s + 4) refl ∙ natural_field index s c.requires.1 in

@@ -10,7 +10,7 @@ use Rattle.volume.proofs.tables.offset.Goals as goal
 
 pub returns : goal.returns
 unfolding offset_at
-returns c = 
+returns c =
     let a = c.args in
     let s = a.table + 4 * a.k in
     to_z-of_z w32 c.be_i32.result (record { sfits = c.be_i32.type_inv }) ∙ c.be_i32.ensures ∙ part_field a.index.now s (s + 4) refl

@@ -6,7 +6,7 @@ use borrow.Author.Rules.{rules}
 use Rattle.volume.proofs.tables.two_bit_length.Goals as goal
 
 pub returns : goal.returns
-returns c = 
+returns c =
     let a = c.args in
     let e : c.minus.result ≡ a.end - a.start - 1 = omega arith in
     rw (e, c.byte.ensures, c.minus-last.ensures)
