@@ -6,7 +6,6 @@ use Rattle.runs.proofs.Answers.{check_refused, check_passed, pack_done}
 use Rattle.byte_runs.proofs.Answers.{bytes_kept, bytes_written}
 use Rattle.runs.specs.declared.PackAnswer.TheVariants.{Packed}
 use Prim.Native.Nat.{ℕ, ◌/◌}
-use borrow.Author.Rules.{rules}
 use Rattle.byte_runs.proofs.pack_bytes.Goals as goal
 
 pub write_run-count-requires : goal.write_run-count-requires

@@ -2,7 +2,6 @@
 use mathlib.Core.Path.{sym, ◌∙◌}
 use lib.ListN.{length}
 use Rattle.byte_runs.proofs.Answers.{unpacked-bytes_may, codes-bytes_kept, codes-bytes_written}
-use borrow.Author.Rules.{rules}
 use Rattle.byte_runs.proofs.unpack_bytes.Goals as goal
 
 pub write_residues-requires : goal.write_residues-requires

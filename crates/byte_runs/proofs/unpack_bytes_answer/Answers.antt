@@ -4,7 +4,6 @@ use mathlib.Core.Bool.{true}
 use mathlib.Core.List.{List}
 use Prim.Native.Nat.{ℕ, ◌/◌}
 use native.Mathlib.Omega.{arith}
-use borrow.Author.Tests.{not-true, not-false}
 use lib.ListN.{length}
 use Rattle.runs.specs.declared.UnpackAnswer.TheVariants.{Unpacked}
 use Rattle.residues.specs.Alphabets.{is_alphabet}
@@ -17,7 +16,6 @@ use Rattle.runs.proofs.Answers.{RunAnswer, run_wrong, run-bad, run_full, run-don
 use Rattle.packets.proofs.Reading.{read-formed, read-not}
 use Rattle.byte_runs.specs.Bytes.{unpack_bytes_answer}
 use Rattle.byte_runs.proofs.Answers.{read_fits, unpack_bytes_large, unpack_bytes_short, unpack_bytes_as}
-use borrow.Author.Rules.{rules}
 use Rattle.byte_runs.proofs.unpack_bytes_answer.Goals as goal
 
 -- the rules that were asked and hold, and the run that was read

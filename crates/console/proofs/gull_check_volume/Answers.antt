@@ -2,7 +2,6 @@
 use mathlib.Core.Path.{sym, ◌∙◌}
 use borrow.Author.Tests.{le-leb, lt-leb}
 use Rattle.console.proofs.Volume.{volume_refused, volume_short, volume_passed}
-use borrow.Author.Rules.{rules}
 use Rattle.console.proofs.gull_check_volume.Goals as goal
 
 pub returns-then-results-lt-CHECK_VOLUME_RESULTS : goal.returns-then-results-lt-CHECK_VOLUME_RESULTS

@@ -5,7 +5,6 @@ use lib.ListN.{length}
 use borrow.Author.Tests.{le-leb, lt-leb}
 use Rattle.answers.specs.declared.Refusal.TheVariants.{NoRoom}
 use Rattle.console.proofs.Calls.{pack_all_refused, pack_all_packed, pack_left, pack_refused, pack_short}
-use borrow.Author.Rules.{rules}
 use Rattle.console.proofs.gull_pack.Goals as goal
 
 pub returns-in_default : goal.returns-in_default

@@ -5,7 +5,6 @@ use lib.ListN.{length}
 use borrow.Author.Tests.{le-leb, lt-leb}
 use Rattle.answers.specs.declared.Refusal.TheVariants.{NoRoom}
 use Rattle.console.proofs.Calls.{unpack_all_refused, unpack_all_unpacked, unpack_left, unpack_refused, unpack_short}
-use borrow.Author.Rules.{rules}
 use Rattle.console.proofs.gull_unpack.Goals as goal
 
 pub returns-in_default : goal.returns-in_default

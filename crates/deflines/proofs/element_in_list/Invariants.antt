@@ -1,12 +1,10 @@
 -- `deflines::element_in_list`: each turn passes one element. What is left of the list gives the answer. Assumes nothing.
 use Prim.Native.Nat.{◌-◌}
-use mathlib.Core.Path.{refl, sym, ◌∙◌}
 use lib.ListN.{length}
 use mathlib.Core.List.{[], ◌∷◌}
 use Rattle.deflines.specs.Fields.{elements_in}
 use Rattle.deflines.specs.Numbered.{place_from}
-use Rattle.deflines.proofs.Walks.{places, Rest, Turn, rest_none, turn_less, turn_here, turn_on, each_held}
-use borrow.Author.Rules.{rules}
+use Rattle.deflines.proofs.Walks.{places, Rest}
 use Rattle.deflines.proofs.element_in_list.Given as goal
 
 abbrev pub invariant-loop-end : goal.invariant-loop-end

@@ -1,6 +1,5 @@
 -- `deflines::field_at`: the tag decides, and a title's text is read. Assumes nothing.
 use Rattle.deflines.proofs.Fields.{field_identifiers_lem, field_other, field_title}
-use borrow.Author.Rules.{rules}
 use Rattle.deflines.proofs.field_at.Goals as goal
 
 pub returns-then-b : goal.returns-then-b

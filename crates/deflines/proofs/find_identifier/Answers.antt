@@ -7,7 +7,6 @@ use Rattle.deflines.specs.declared.IdentifierAnswer.TheVariants as I
 use Rattle.deflines.specs.Calls.{identifier_given}
 use Rattle.deflines.proofs.Calls.{passed_room, passed_sized, identifier_refused, identifier_passed}
 use Rattle.deflines.proofs.Identifiers.{identifier_room}
-use borrow.Author.Rules.{rules}
 use Rattle.deflines.proofs.find_identifier.Goals as goal
 
 pub slice_bounds-s-end : goal.slice_bounds-s-end

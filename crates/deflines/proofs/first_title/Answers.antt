@@ -4,7 +4,6 @@ use Rattle.answers.specs.declared.Checked.TheVariants as C
 use Rattle.headers.specs.Record.{check_record}
 use Rattle.deflines.specs.Calls.{first_given}
 use Rattle.deflines.proofs.Calls.{passed_room, passed_sized, first_denied, first_passed}
-use borrow.Author.Rules.{rules}
 use Rattle.deflines.proofs.first_title.Goals as goal
 
 pub slice_bounds-title_in_first-end : goal.slice_bounds-title_in_first-end

@@ -1,13 +1,10 @@
 -- `deflines::identifier_in_line`: each turn passes one field and looks through a list of identifiers.
 -- What is left of the fields gives the answer. Assumes nothing.
 use Prim.Native.Nat.{◌-◌}
-use mathlib.Core.Path.{refl, sym, ◌∙◌}
 use lib.ListN.{length}
 use Rattle.deflines.specs.Fields.{field_at, field_identifiers, identifiers_in}
 use Rattle.deflines.specs.Numbered.{place_from}
-use Rattle.deflines.proofs.Walks.{places, Rest, Turn, rest_none, turn_room, turn_less, turn_found, turn_left, turn_past}
-use Rattle.deflines.proofs.Fields.{no_identifiers, list_held, list_inside}
-use borrow.Author.Rules.{rules}
+use Rattle.deflines.proofs.Walks.{places, Rest}
 use Rattle.deflines.proofs.identifier_in_line.Given as goal
 
 abbrev pub invariant-loop-end : goal.invariant-loop-end

@@ -1,11 +1,9 @@
 -- `deflines::identifier_in_record`: each turn looks through one def-line. What is left of the def-lines gives the answer. Assumes nothing.
 use Prim.Native.Nat.{◌-◌}
-use mathlib.Core.Path.{refl, sym, ◌∙◌}
 use lib.ListN.{length}
 use Rattle.deflines.specs.Fields.{identifiers_in, identifiers_of}
 use Rattle.deflines.specs.Numbered.{place_from}
-use Rattle.deflines.proofs.Walks.{places, Rest, Turn, rest_none, turn_room, turn_less, turn_found, turn_left}
-use borrow.Author.Rules.{rules}
+use Rattle.deflines.proofs.Walks.{places, Rest}
 use Rattle.deflines.proofs.identifier_in_record.Given as goal
 
 abbrev pub invariant-loop-end : goal.invariant-loop-end

@@ -3,7 +3,6 @@ use mathlib.Core.Path.{◌≡◌, sym, ◌∙◌}
 use mathlib.Core.Bool.{false}
 use Rattle.elements.specs.Reading.{closes}
 use Rattle.deflines.proofs.Walks.{next-closed, next-read}
-use borrow.Author.Rules.{rules}
 use Rattle.deflines.proofs.next_element.Goals as goal
 
 pub returns-then-closes_at : goal.returns-then-closes_at

@@ -4,7 +4,6 @@ use Rattle.answers.specs.declared.Checked.TheVariants as C
 use Rattle.headers.specs.Record.{check_record}
 use Rattle.deflines.specs.Calls.{title_given}
 use Rattle.deflines.proofs.Calls.{passed_room, passed_sized, title-refused, title_passed}
-use borrow.Author.Rules.{rules}
 use Rattle.deflines.proofs.title.Goals as goal
 
 pub slice_bounds-title_in_record-end : goal.slice_bounds-title_in_record-end

@@ -1,7 +1,6 @@
 -- `deflines::title_in_first`: the first def-line is the first element of the set, where there is one. Assumes nothing.
 use mathlib.Core.Path.{sym, ◌∙◌}
 use Rattle.deflines.proofs.Calls.{first-none, first_line_lem, line_room}
-use borrow.Author.Rules.{rules}
 use Rattle.deflines.proofs.title_in_first.Goals as goal
 
 pub returns-in_default : goal.returns-in_default

@@ -2,12 +2,9 @@
 -- What is left of the fields gives the answer. Assumes nothing.
 use Prim.Native.Nat.{◌-◌}
 use mathlib.Core.Path.{refl, sym, ◌∙◌}
-use lib.ListN.{length}
-use Rattle.deflines.specs.Fields.{field_at, field_titles, titles_in}
-use Rattle.deflines.specs.Numbered.{title_from}
-use Rattle.deflines.proofs.Walks.{titles, Rest, Turn, rest_none, turn_room, turn_less, turn_past, turn_here, turn_on}
+use Rattle.deflines.specs.Fields.{titles_in}
+use Rattle.deflines.proofs.Walks.{Turn, rest_none, turn_room, turn_less, turn_past, turn_here, turn_on}
 use Rattle.deflines.proofs.Fields.{title_held, no_title}
-use borrow.Author.Rules.{rules}
 use Rattle.deflines.proofs.title_in_line.Goals as goal
 
 pub loop-end-init : goal.loop-end-init

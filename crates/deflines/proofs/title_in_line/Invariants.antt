@@ -1,13 +1,10 @@
 -- `deflines::title_in_line`: each turn passes one field, stops at a title and steps past any other.
 -- What is left of the fields gives the answer. Assumes nothing.
 use Prim.Native.Nat.{◌-◌}
-use mathlib.Core.Path.{refl, sym, ◌∙◌}
 use lib.ListN.{length}
 use Rattle.deflines.specs.Fields.{field_at, field_titles, titles_in}
 use Rattle.deflines.specs.Numbered.{title_from}
-use Rattle.deflines.proofs.Walks.{titles, Rest, Turn, rest_none, turn_room, turn_less, turn_past, turn_here, turn_on}
-use Rattle.deflines.proofs.Fields.{title_held, no_title}
-use borrow.Author.Rules.{rules}
+use Rattle.deflines.proofs.Walks.{titles, Rest}
 use Rattle.deflines.proofs.title_in_line.Given as goal
 
 abbrev pub invariant-loop-end : goal.invariant-loop-end

@@ -1,11 +1,8 @@
 -- `deflines::title_in_record`: each turn looks through one def-line. What is left of the def-lines gives the answer. Assumes nothing.
 use Prim.Native.Nat.{◌-◌}
 use mathlib.Core.Path.{refl, sym, ◌∙◌}
-use lib.ListN.{length}
-use Rattle.deflines.specs.Fields.{titles_in, titles_of}
-use Rattle.deflines.specs.Numbered.{title_from}
-use Rattle.deflines.proofs.Walks.{titles, Rest, Turn, rest_none, turn_room, turn_less, turn_found, turn_left}
-use borrow.Author.Rules.{rules}
+use Rattle.deflines.specs.Fields.{titles_of}
+use Rattle.deflines.proofs.Walks.{Turn, rest_none, turn_room, turn_less, turn_found, turn_left}
 use Rattle.deflines.proofs.title_in_record.Goals as goal
 
 pub loop-end-init : goal.loop-end-init

@@ -2,7 +2,6 @@
 use Rattle.answers.proofs.Checks.{all_hold}
 use Rattle.dsqdata.specs.Check.{packet_ends_rules}
 use Rattle.dsqdata.proofs.Parted.{few_of, metadata_ends-stopped, packet-ends-stopped, runs-stopped, content_passed}
-use borrow.Author.Rules.{rules}
 use Rattle.dsqdata.proofs.check_content.Goals as goal
 
 pub returns-in-Refused : goal.returns-in-Refused

@@ -3,7 +3,6 @@ use native.Mathlib.Omega.{arith}
 use Rattle.dsqdata.specs.Header.{bytes_after_header}
 use Rattle.dsqdata.specs.Ends.{metadata_table}
 use Rattle.dsqdata.proofs.Parted.{few_of, ends_here}
-use borrow.Author.Rules.{rules}
 use Rattle.dsqdata.proofs.check_metadata_ends.Goals as goal
 
 pub check_ends-requires : goal.check_ends-requires

@@ -5,7 +5,6 @@ use Prim.Native.Nat.{ℕ, ◌/◌}
 use Rattle.dsqdata.specs.Header.{packets_in}
 use Rattle.dsqdata.specs.Ends.{packet_table}
 use Rattle.dsqdata.proofs.Parted.{few_of, ends_here}
-use borrow.Author.Rules.{rules}
 use Rattle.dsqdata.proofs.check_packet_ends.Goals as goal
 
 pub check_ends-requires : goal.check_ends-requires

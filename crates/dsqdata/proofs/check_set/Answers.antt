@@ -1,6 +1,5 @@
 -- `dsqdata::check_set`: each part answers for its rules, and the first that refuses decides. Assumes nothing.
 use Rattle.dsqdata.proofs.Parted.{files_stopped, layout_stopped, set_bounds, content_stopped, set_passed}
-use borrow.Author.Rules.{rules}
 use Rattle.dsqdata.proofs.check_set.Goals as goal
 
 pub returns-in-Refused : goal.returns-in-Refused

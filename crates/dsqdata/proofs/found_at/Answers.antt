@@ -2,7 +2,6 @@
 use native.Mathlib.Omega.{arith}
 use Rattle.dsqdata.specs.Ends.{metadata_table, packet_table}
 use Rattle.dsqdata.proofs.Parts.{part_rises}
-use borrow.Author.Rules.{rules}
 use Rattle.dsqdata.proofs.found_at.Goals as goal
 
 pub overflow_sub-bytes : goal.overflow_sub-bytes

@@ -6,7 +6,6 @@ use Rattle.answers.proofs.Checks.{all_hold}
 use Rattle.dsqdata.specs.Ends.{metadata_table, packet_table}
 use Rattle.dsqdata.specs.Lookup.{part_rules, lookup_rules, lookup_of}
 use Rattle.dsqdata.proofs.Parted.{lookup_count_stopped, lookup_few, number-stopped, metadata_part-stopped, run_part-stopped, lookup_found}
-use borrow.Author.Rules.{rules}
 use Rattle.dsqdata.proofs.lookup.Goals as goal
 
 -- the number is one that a set can have; here and below e is behind the count's check, n behind the number's test, p behind the metadata part

@@ -2,13 +2,9 @@
 -- answer for the whole element. Assumes nothing.
 use native.Mathlib.Omega.{arith}
 use mathlib.Core.Path.{sym, ◌∙◌}
-use borrow.Author.Tests.{not-true, not-false}
-use Prim.Native.Nat.{ℕ, ◌-◌, ◌<◌}
-use lib.ListN.{length}
-use Rattle.elements.specs.Reading.{read}
-use Rattle.elements.proofs.Reading.{ends-within, closes-within, Inner, read_deep, list-room, choice-room, read_started, read-choice}
-use Rattle.elements.proofs.Reading.{Rest, rest_begins, rest_ends, rest_short, rest_stray, rest_refused, rest_passed}
-use borrow.Author.Rules.{rules}
+use Prim.Native.Nat.{◌-◌}
+use Rattle.elements.proofs.Reading.{ends-within, closes-within, read_deep, list-room, choice-room, read_started, read-choice}
+use Rattle.elements.proofs.Reading.{rest_begins, rest_ends, rest_short, rest_stray, rest_refused, rest_passed}
 use Rattle.elements.proofs.+element_within.Goals as goal
 
 -- what the calls ask and tell; an inner element is read with one depth less

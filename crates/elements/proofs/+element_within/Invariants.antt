@@ -1,14 +1,10 @@
 -- `elements::element_within`: an inner element is read with one depth less. The loop's invariant says that the rest of the list, read from p on, gives the
 -- answer for the whole element. Assumes nothing.
-use native.Mathlib.Omega.{arith}
-use mathlib.Core.Path.{sym, ◌∙◌}
-use borrow.Author.Tests.{not-true, not-false}
-use Prim.Native.Nat.{ℕ, ◌-◌, ◌<◌}
+use Prim.Native.Nat.{◌-◌}
 use lib.ListN.{length}
 use Rattle.elements.specs.Reading.{read}
-use Rattle.elements.proofs.Reading.{ends-within, closes-within, Inner, read_deep, list-room, choice-room, read_started, read-choice}
-use Rattle.elements.proofs.Reading.{Rest, rest_begins, rest_ends, rest_short, rest_stray, rest_refused, rest_passed}
-use borrow.Author.Rules.{rules}
+use Rattle.elements.proofs.Reading.{Inner}
+use Rattle.elements.proofs.Reading.{Rest}
 use Rattle.elements.proofs.+element_within.Given as goal
 
 abbrev pub invariant-loop-inner : goal.invariant-loop-inner

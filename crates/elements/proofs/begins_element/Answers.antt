@@ -1,6 +1,5 @@
 -- `elements::begins_element`: each first byte is a test of the definition. Assumes nothing.
 use borrow.Author.Tests.{eq-eqb, ne_eqb}
-use borrow.Author.Rules.{rules}
 use Rattle.elements.proofs.begins_element.Goals as goal
 
 pub returns-then-b-eq2 : goal.returns-then-b-eq2

@@ -2,7 +2,6 @@
 use native.Mathlib.Omega.{arith}
 use mathlib.Core.Path.{sym, ◌∙◌}
 use Rattle.elements.proofs.Reading.{closed_is, closes-within}
-use borrow.Author.Rules.{rules}
 use Rattle.elements.proofs.closed.Goals as goal
 
 pub overflow_add-result : goal.overflow_add-result

@@ -1,7 +1,6 @@
 -- `elements::closes_at`: the two places are tested before the two bytes, as in the definition. Assumes nothing.
 use native.Mathlib.Omega.{arith}
 use Rattle.elements.proofs.Reading.{closes_late, closes-first, closes-second}
-use borrow.Author.Rules.{rules}
 use Rattle.elements.proofs.closes_at.Goals as goal
 
 pub returns-then-s-at : goal.returns-then-s-at

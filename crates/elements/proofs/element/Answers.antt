@@ -1,5 +1,4 @@
 -- `elements::element`: the reader with all sixteen depths left. Assumes nothing.
-use borrow.Author.Rules.{rules}
 use Rattle.elements.proofs.element.Goals as goal
 
 pub returns : goal.returns

@@ -5,7 +5,6 @@ use mir.Syntax.{w64}
 use mir.ValLaws.{to_z-of_z}
 use Rattle.elements.specs.declared.IntegerAnswer.TheVariants as I
 use Rattle.elements.proofs.Parts.{inside_file, integer-other, integer-is, integer-read}
-use borrow.Author.Rules.{rules}
 use Rattle.elements.proofs.integer.Goals as goal
 
 pub returns-then-byte-ne2 : goal.returns-then-byte-ne2

@@ -1,5 +1,4 @@
 -- `elements::integer_allowed`: the bytes lie within the slice, so there are n of them. Assumes nothing.
-use borrow.Author.Rules.{rules}
 use Rattle.elements.proofs.Parts.{bytes-length, allowed-none, allowed_many, allowed-some}
 use Rattle.elements.proofs.integer_allowed.Goals as goal
 

@@ -1,8 +1,6 @@
 -- `elements::integer_part`: the tests are those of the definition, in its order. Assumes nothing.
-use borrow.Author.Tests.{not-true, not-false}
 use mathlib.Core.Path.{sym, ◌∙◌}
 use Rattle.elements.proofs.Parts.{integer-none, integer-short, integer_tested}
-use borrow.Author.Rules.{rules}
 use Rattle.elements.proofs.integer_part.Goals as goal
 
 pub returns-then-s-at : goal.returns-then-s-at

@@ -2,7 +2,6 @@
 use Prim.Native.Nat.{◌+◌}
 use native.Mathlib.Omega.{arith}
 use Rattle.elements.proofs.Parts.{padded_few, padded_none, padded_some}
-use borrow.Author.Rules.{rules}
 use Rattle.elements.proofs.is_padded.Goals as goal
 
 pub returns-then-n-le1 : goal.returns-then-n-le1

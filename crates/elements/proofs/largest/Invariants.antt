@@ -1,12 +1,7 @@
 -- `elements::largest`: the invariant says that one more than the number is a power of 256. Assumes nothing.
-use mathlib.Core.Path.{◌≡◌, ap, ◌∙◌}
-use native.Mathlib.Nat.{le_antisymm}
-use Prim.Native.Nat.{ℕ}
+use mathlib.Core.Path.{◌≡◌}
 use Prim.Native.Nat.{◌+◌, ◌-◌, ◌^◌, ◌≤◌}
 use mathlib.Core.Path.{◌≡◌}
-use native.Mathlib.Omega.{arith}
-use Rattle.elements.proofs.Parts.{full, full_more}
-use borrow.Author.Rules.{rules}
 use Rattle.elements.proofs.largest.Given as goal
 
 abbrev pub invariant-loop-i : goal.invariant-loop-i

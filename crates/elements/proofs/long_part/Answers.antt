@@ -1,6 +1,5 @@
 -- `elements::long_part`: the length lies within the slice, and the text after it is one part. Assumes nothing.
 use Rattle.elements.proofs.Parts.{long-short, long-fits}
-use borrow.Author.Rules.{rules}
 use Rattle.elements.proofs.long_part.Goals as goal
 
 pub returns-then-s-at : goal.returns-then-s-at

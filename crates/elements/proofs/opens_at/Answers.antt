@@ -1,7 +1,6 @@
 -- `elements::opens_at`: the place is tested before the byte, as in the definition. Assumes nothing.
 use borrow.Author.Tests.{lt-ltb, le-ltb}
 use Rattle.elements.specs.Reading.{opens}
-use borrow.Author.Rules.{rules}
 use Rattle.elements.proofs.opens_at.Goals as goal
 
 pub returns-then-s-at : goal.returns-then-s-at

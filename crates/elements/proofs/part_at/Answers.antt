@@ -1,6 +1,5 @@
 -- `elements::part_at`: the test of the bytes left is the definition's test of the end. Assumes nothing.
 use Rattle.elements.proofs.Parts.{part_short, part_fits}
-use borrow.Author.Rules.{rules}
 use Rattle.elements.proofs.part_at.Goals as goal
 
 pub returns-then-s-at : goal.returns-then-s-at

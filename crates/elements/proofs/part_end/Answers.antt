@@ -3,7 +3,6 @@ use native.Mathlib.Omega.{arith}
 use mathlib.Core.Path.{sym, ap}
 use Rattle.elements.proofs.Parts.{within_part}
 use Rattle.elements.specs.Reading.{end_of}
-use borrow.Author.Rules.{rules}
 use Rattle.elements.proofs.part_end.Goals as goal
 
 pub overflow_add-result : goal.overflow_add-result

@@ -1,7 +1,6 @@
 -- `elements::signed_at`: the upper half of the numbers of n bytes are the negative ones. Assumes nothing.
 use native.Mathlib.Omega.{arith}
 use Rattle.elements.proofs.Parts.{Counted, value-small, most-fits, signed_low, signed_high}
-use borrow.Author.Rules.{rules}
 use Rattle.elements.proofs.signed_at.Goals as goal
 
 pub returns-then-x-most : goal.returns-then-x-most

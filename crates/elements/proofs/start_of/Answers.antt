@@ -1,12 +1,10 @@
 -- `elements::start_of`: the tests are those of the definition, in its order. Assumes nothing.
 use mathlib.Core.Path.{sym, ap, ◌∙◌}
-use borrow.Author.Tests.{not-true, not-false}
 use Rattle.elements.specs.Reading.{end_of}
 use Prim.Native.Nat.{◌+◌}
 use Rattle.elements.proofs.Parts.{integer-within, text-within}
 use Rattle.elements.proofs.Reading.{MayBegin, Opened, start_none, start_wrong, start-integer, start-text, start_shut}
 use Rattle.elements.proofs.Reading.{start-list, start-choice, start-other}
-use borrow.Author.Rules.{rules}
 use Rattle.elements.proofs.start_of.Goals as goal
 
 pub returns-then-s-at : goal.returns-then-s-at

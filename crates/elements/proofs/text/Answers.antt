@@ -1,7 +1,6 @@
 -- `elements::text`: a byte 1A stands within the slice, and the text's length behind it. Assumes nothing.
 use native.Mathlib.Omega.{arith}
 use Rattle.elements.proofs.Parts.{inside_file, text-other, text-is}
-use borrow.Author.Rules.{rules}
 use Rattle.elements.proofs.text.Goals as goal
 
 pub returns-then-byte-ne26 : goal.returns-then-byte-ne26

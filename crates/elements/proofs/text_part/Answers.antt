@@ -1,9 +1,7 @@
 -- `elements::text_part`: the tests are those of the definition, in its order. Assumes nothing.
 use native.Mathlib.Omega.{arith}
 use mathlib.Core.Path.{sym, ◌∙◌}
-use borrow.Author.Tests.{not-true, not-false}
 use Rattle.elements.proofs.Parts.{range_parts, text-none, text-short, text_wrong, text-long}
-use borrow.Author.Rules.{rules}
 use Rattle.elements.proofs.text_part.Goals as goal
 
 pub returns-then-s-at : goal.returns-then-s-at

@@ -1,7 +1,6 @@
 -- `elements::too_deep`: the byte is the one that the definition tests. Assumes nothing.
 use mathlib.Core.Path.{sym, ◌∙◌}
 use Rattle.elements.proofs.Reading.{deep_is}
-use borrow.Author.Rules.{rules}
 use Rattle.elements.proofs.too_deep.Goals as goal
 
 pub returns-then-begins_element : goal.returns-then-begins_element

@@ -1,7 +1,6 @@
 -- `fields::be_u32`: the number of its four bytes. Assumes nothing.
 use Rattle.fields.specs.Number.{big}
 use Rattle.fields.proofs.Laws.{field_number}
-use borrow.Author.Rules.{rules}
 use Rattle.fields.proofs.be_u32.Goals as goal
 
 pub returns : goal.returns

@@ -2,7 +2,6 @@
 use Prim.Native.Nat.{◌/◌, ◌%◌}
 use mathlib.Core.Path.{◌∙◌}
 use Rattle.fields.proofs.Laws.{big_word}
-use borrow.Author.Rules.{rules}
 use Rattle.fields.proofs.big_endian.Goals as goal
 
 pub returns : goal.returns

@@ -1,6 +1,5 @@
 -- `fields::byte`: a byte past the end is 0. Assumes nothing.
 use Rattle.fields.proofs.Laws.{past_end}
-use borrow.Author.Rules.{rules}
 use Prim.Native.Nat.{◌-◌}
 use Rattle.fields.proofs.byte.Goals as goal
 

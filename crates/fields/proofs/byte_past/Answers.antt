@@ -1,6 +1,5 @@
 -- `fields::byte_past`: a byte past the end is 0. Assumes nothing.
 use Rattle.fields.proofs.Laws.{past_end}
-use borrow.Author.Rules.{rules}
 use native.Mathlib.Omega.{arith}
 use Prim.Native.Nat.{◌+◌}
 use Rattle.fields.proofs.byte_past.Goals as goal

@@ -5,7 +5,6 @@ use Prim.Native.Nat.{◌+◌}
 use lib.ListN.{length}
 use borrow.Author.Tests.{leb-true}
 use Rattle.fields.proofs.Laws.{four_read}
-use borrow.Author.Rules.{rules}
 use Rattle.fields.proofs.four.Goals as goal
 
 pub inside-requires : goal.inside-requires

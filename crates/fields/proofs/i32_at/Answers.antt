@@ -1,7 +1,6 @@
 -- `fields::i32_at`: the signed field in the order that is told. Assumes nothing.
 use mir.Syntax.{w32}
 use Rattle.laws.proofs.Signed.{again}
-use borrow.Author.Rules.{rules}
 use Rattle.fields.proofs.i32_at.Goals as goal
 
 pub returns-in-Big : goal.returns-in-Big

@@ -1,7 +1,6 @@
 -- `fields::inside`: the four bytes are those of the definition, one by one. Assumes nothing.
 use mathlib.Core.Path.{refl, ◌∙◌}
 use Rattle.fields.proofs.Laws.{four_read}
-use borrow.Author.Rules.{rules}
 use Rattle.fields.proofs.inside.Goals as goal
 
 pub returns : goal.returns

@@ -2,7 +2,6 @@
 use mir.Syntax.{w64}
 use Rattle.fields.specs.Number.{little}
 use Rattle.fields.proofs.Laws.{signed_field}
-use borrow.Author.Rules.{rules}
 use Rattle.fields.proofs.le_i64.Goals as goal
 
 pub returns : goal.returns

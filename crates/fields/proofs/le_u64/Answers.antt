@@ -1,7 +1,6 @@
 -- `fields::le_u64`: its two halves. Assumes nothing.
 use mathlib.Core.Path.{◌∙◌}
 use Rattle.fields.proofs.Laws.{little_halves}
-use borrow.Author.Rules.{rules}
 use Rattle.fields.proofs.le_u64.Goals as goal
 
 pub returns : goal.returns

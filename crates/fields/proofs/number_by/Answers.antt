@@ -1,5 +1,4 @@
 -- `fields::number_by`: the number in the order that is told. Assumes nothing.
-use borrow.Author.Rules.{rules}
 use Rattle.fields.proofs.number_by.Goals as goal
 
 pub returns-in-Big : goal.returns-in-Big

@@ -5,7 +5,6 @@ use lib.ListN.{length}
 use borrow.Author.Tests.{leb-true, leb-false}
 use Rattle.fields.specs.Number.{big}
 use Rattle.fields.proofs.Laws.{put_fits, put_not}
-use borrow.Author.Rules.{rules}
 use Rattle.fields.proofs.put_big.Goals as goal
 
 pub put_big_bytes-requires : goal.put_big_bytes-requires

@@ -1,14 +1,13 @@
 -- `fields::put_big_bytes`: what is written so far, and what is left to write, are the number's bytes. Assumes nothing.
 use mathlib.Core.Path.{◌≡◌, refl, ap, ◌∙◌}
 use mathlib.Core.List.{List, ◌∷◌}
-use Prim.Native.Nat.{ℕ, ◌≤◌, ◌-◌, ◌+◌, ◌*◌, ◌/◌, ◌%◌, ◌^◌}
+use Prim.Native.Nat.{ℕ, ◌-◌, ◌+◌, ◌*◌, ◌/◌, ◌%◌, ◌^◌}
 use native.Mathlib.Omega.{arith}
 use lib.ListN.{length, drop, set, length-set}
-use lib.Seq.{paste, paste-zero}
+use lib.Seq.{paste-zero}
 use Rattle.laws.specs.Digits.{digits}
 use Rattle.laws.proofs.Digits.{digits-cons, length_digits}
 use Rattle.laws.proofs.Writing.{write_step, rest_step, paste_whole}
-use borrow.Author.Rules.{rules}
 use Rattle.fields.proofs.put_big_bytes.Goals as goal
 
 pub loop-j-init : goal.loop-j-init

@@ -5,7 +5,6 @@ use lib.ListN.{length}
 use borrow.Author.Tests.{leb-true, leb-false}
 use Rattle.fields.specs.Number.{little}
 use Rattle.fields.proofs.Laws.{put_fits, put_not}
-use borrow.Author.Rules.{rules}
 use Rattle.fields.proofs.put_little.Goals as goal
 
 pub put_little_bytes-requires : goal.put_little_bytes-requires

@@ -1,14 +1,9 @@
 -- `fields::put_little_bytes`: what is written so far, and what is left to write, are the number's bytes. Assumes nothing.
-use mathlib.Core.Path.{◌≡◌, refl, ap, ◌∙◌}
-use mathlib.Core.List.{List}
-use Prim.Native.Nat.{ℕ, ◌≤◌, ◌-◌, ◌+◌, ◌/◌, ◌%◌}
-use native.Mathlib.Omega.{arith}
-use lib.ListN.{length, drop, set, length-set}
-use lib.Seq.{paste, paste-zero}
-use Rattle.laws.proofs.Writing.{write_step, rest_step, paste_whole}
+use mathlib.Core.Path.{◌≡◌}
+use Prim.Native.Nat.{◌≤◌, ◌-◌}
+use lib.ListN.{length, drop}
+use lib.Seq.{paste}
 use Rattle.fields.specs.Written.{little_bytes}
-use Rattle.fields.proofs.Laws.{little-cons, length-little}
-use borrow.Author.Rules.{rules}
 use Rattle.fields.proofs.put_little_bytes.Given as goal
 
 abbrev pub invariant-loop-j : goal.invariant-loop-j

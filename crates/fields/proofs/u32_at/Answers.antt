@@ -1,6 +1,5 @@
 -- `fields::u32_at`: the number of its four bytes in the order. Assumes nothing.
 use Rattle.fields.proofs.Laws.{field_number}
-use borrow.Author.Rules.{rules}
 use Rattle.fields.proofs.u32_at.Goals as goal
 
 pub returns : goal.returns

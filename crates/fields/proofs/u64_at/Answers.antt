@@ -1,5 +1,4 @@
 -- `fields::u64_at`: the field in the order that is told. Assumes nothing.
-use borrow.Author.Rules.{rules}
 use Rattle.fields.proofs.u64_at.Goals as goal
 
 pub returns-in-Big : goal.returns-in-Big

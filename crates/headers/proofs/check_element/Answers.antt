@@ -1,7 +1,6 @@
 -- `headers::check_element`: the nesting is read before the shape, and each answer decides one rule. Assumes nothing.
 use mathlib.Core.Path.{sym, ◌∙◌}
 use Rattle.headers.proofs.Record.{nest_refused, nest_more, shape-refused, shape-read}
-use borrow.Author.Rules.{rules}
 use Rattle.headers.proofs.check_element.Goals as goal
 
 pub returns-then-n-s : goal.returns-then-n-s

@@ -2,7 +2,6 @@
 use mathlib.Core.Path.{sym}
 use lib.Seq.{length-take-le}
 use Rattle.headers.proofs.Record.{record-large, record_turned, record-past, record_element}
-use borrow.Author.Rules.{rules}
 use Rattle.headers.proofs.check_record.Goals as goal
 
 pub returns-then-header-gt-MOST_BYTES : goal.returns-then-header-gt-MOST_BYTES

@@ -2,7 +2,6 @@
 use Prim.Native.Nat.{ℕ, ◌-◌, ◌<◌}
 use native.Mathlib.Omega.{arith}
 use Rattle.kinds.proofs.Names.{placed, part_name, named, below, above}
-use borrow.Author.Rules.{rules}
 use Rattle.kinds.proofs.kind_name.Goals as goal
 
 -- the kind's place among the twenty

@@ -4,7 +4,6 @@ use mathlib.Core.Path.{sym, ◌∙◌}
 use mir.Syntax.{w32}
 use mir.ValLaws.{to_z-of_z}
 use Rattle.labels.proofs.Labels.{label_large, label_index_refused, label_none, label_found, IndexRead, index_read}
-use borrow.Author.Rules.{rules}
 use Rattle.labels.proofs.find_label.Goals as goal
 
 pub returns-then-header-gt-MOST_BYTES : goal.returns-then-header-gt-MOST_BYTES

@@ -3,7 +3,6 @@ use mathlib.Core.Path.{◌∙◌}
 use mir.Syntax.{w32}
 use mir.ValLaws.{to_z-of_z}
 use Rattle.volume.specs.Tables.{offset_at}
-use borrow.Author.Rules.{rules}
 use Rattle.labels.proofs.header_offset.Goals as goal
 
 pub returns : goal.returns

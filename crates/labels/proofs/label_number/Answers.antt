@@ -1,7 +1,6 @@
 -- `labels::label_number`: by the cases of the label. Assumes nothing.
 use mathlib.Core.Path.{sym, ap, ◌∙◌}
 use Rattle.labels.specs.Label.{label_number}
-use borrow.Author.Rules.{rules}
 use Rattle.labels.proofs.label_number.Goals as goal
 
 pub returns-in-InHeader : goal.returns-in-InHeader

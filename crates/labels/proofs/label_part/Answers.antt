@@ -3,7 +3,6 @@ use native.Mathlib.Omega.{arith}
 use mathlib.Core.Path.{sym, ap, ◌∙◌}
 use Rattle.labels.specs.Label.{label_part}
 use Rattle.labels.proofs.Labels.{label_within, part_header, part_index, place_header, place_index, place-refused}
-use borrow.Author.Rules.{rules}
 use Rattle.labels.proofs.label_part.Goals as goal
 
 pub overflow_add-end : goal.overflow_add-end

@@ -8,7 +8,6 @@ use Rattle.laws.specs.Signed.{to_nat}
 use Rattle.answers.specs.Limits.{checked_by}
 use Rattle.labels.specs.Label.{own_rules, record_label}
 use Rattle.labels.proofs.Labels.{own_are, first_are, offsets-refused, offsets_passed}
-use borrow.Author.Rules.{rules}
 use Rattle.labels.proofs.offsets_label.Goals as goal
 
 pub returns-in-Refused : goal.returns-in-Refused

@@ -1,7 +1,6 @@
 -- `labels::record_label`: by the cases of the first title. Assumes nothing.
 use mathlib.Core.Path.{sym, ap}
 use Rattle.labels.specs.Label.{record_label}
-use borrow.Author.Rules.{rules}
 use Rattle.labels.proofs.record_label.Goals as goal
 
 pub returns-in-Title : goal.returns-in-Title

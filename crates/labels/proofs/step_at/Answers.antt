@@ -3,7 +3,6 @@ use native.Mathlib.Omega.{arith}
 use mathlib.Core.Path.{sym, ◌∙◌}
 use Rattle.deflines.proofs.Count.{title_bound}
 use Rattle.labels.proofs.Steps.{step-title, step-refused}
-use borrow.Author.Rules.{rules}
 use Rattle.labels.proofs.step_at.Goals as goal
 
 pub overflow_add-result : goal.overflow_add-result

@@ -1,7 +1,6 @@
 -- `listing::check_listed`: each test is the rule of the same place in the list. Assumes nothing.
 use borrow.Author.Tests.{le-leb, lt-leb}
 use Rattle.listing.specs.Listing.{listed_answer}
-use borrow.Author.Rules.{rules}
 use Rattle.listing.proofs.check_listed.Goals as goal
 
 pub returns-then-index-gt-MOST_LISTED : goal.returns-then-index-gt-MOST_LISTED

@@ -5,7 +5,6 @@ use lib.ListN.{length-append}
 use mathlib.Core.List.{◌++◌}
 use Rattle.listing.specs.Listing.{space, line_feed, number_then, head_text}
 use Rattle.listing.proofs.Texts.{put_first, put_then, head_size}
-use borrow.Author.Rules.{rules}
 use Rattle.listing.proofs.put_head.Goals as goal
 
 pub put_type-after_type-requires : goal.put_type-after_type-requires

@@ -3,7 +3,6 @@ use native.Mathlib.Omega.{arith}
 use lib.ListN.{length-append}
 use Rattle.listing.specs.Listing.{space, line_feed, number_then, length_text}
 use Rattle.listing.proofs.Texts.{put_then}
-use borrow.Author.Rules.{rules}
 use Rattle.listing.proofs.put_length.Goals as goal
 
 pub put_number-next-requires : goal.put_number-next-requires

@@ -1,5 +1,4 @@
 -- `listing::put_lengths`: the lines of the sequences so far are put. Assumes nothing.
-use mathlib.Core.Path.{◌≡◌}
 use Prim.Native.Nat.{◌+◌, ◌-◌, ◌≤◌}
 use native.Mathlib.Nat.{le_antisymm}
 use native.Mathlib.Numerals.{add-one}
@@ -7,7 +6,7 @@ use native.Mathlib.Omega.{arith}
 use lib.ListN.{length, length-append}
 use mathlib.Core.List.{◌++◌}
 use Rattle.volume.specs.Tables.{length_of_number}
-use Rattle.listing.specs.Listing.{length_text, lengths_text, Put}
+use Rattle.listing.specs.Listing.{length_text, lengths_text}
 use Rattle.listing.proofs.Texts.{put_none, put_then, lengths_grow}
 use borrow.Author.Rules.{rules}
 use Rattle.listing.proofs.put_lengths.Goals as goal

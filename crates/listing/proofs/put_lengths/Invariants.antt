@@ -1,15 +1,9 @@
 -- `listing::put_lengths`: the lines of the sequences so far are put. Assumes nothing.
 use mathlib.Core.Path.{◌≡◌}
-use Prim.Native.Nat.{◌+◌, ◌-◌, ◌≤◌}
-use native.Mathlib.Nat.{le_antisymm}
-use native.Mathlib.Numerals.{add-one}
-use native.Mathlib.Omega.{arith}
-use lib.ListN.{length, length-append}
-use mathlib.Core.List.{◌++◌}
+use Prim.Native.Nat.{◌-◌, ◌≤◌}
+use lib.ListN.{length}
 use Rattle.volume.specs.Tables.{length_of_number}
-use Rattle.listing.specs.Listing.{length_text, lengths_text, Put}
-use Rattle.listing.proofs.Texts.{put_none, put_then, lengths_grow}
-use borrow.Author.Rules.{rules}
+use Rattle.listing.specs.Listing.{lengths_text, Put}
 use Rattle.listing.proofs.put_lengths.Given as goal
 
 abbrev pub invariant-loop-i : goal.invariant-loop-i

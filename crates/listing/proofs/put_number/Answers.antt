@@ -4,7 +4,6 @@ use native.Mathlib.Omega.{arith}
 use lib.ListN.{length-append}
 use Rattle.listing.specs.Listing.{decimal, number_then}
 use Rattle.listing.proofs.Texts.{put_then}
-use borrow.Author.Rules.{rules}
 use Rattle.listing.proofs.put_number.Goals as goal
 
 pub put_decimal-next-requires : goal.put_decimal-next-requires

@@ -3,7 +3,6 @@ use native.Mathlib.Omega.{arith}
 use lib.ListN.{length-append}
 use Rattle.listing.specs.Listing.{line_feed, refused_word, number_then, refused_text}
 use Rattle.listing.proofs.Texts.{put_first}
-use borrow.Author.Rules.{rules}
 use Rattle.listing.proofs.put_refused.Goals as goal
 
 pub put_text-next-requires : goal.put_text-next-requires

@@ -1,10 +1,10 @@
 -- `listing::put_text`: the bytes so far are put. Assumes nothing.
 use mathlib.Core.Path.{◌≡◌, ap, ◌∙◌}
 use mathlib.Core.List.{List}
-use Prim.Native.Nat.{ℕ, ◌+◌, ◌-◌, ◌≤◌}
+use Prim.Native.Nat.{ℕ, ◌+◌, ◌-◌}
 use native.Mathlib.Omega.{arith}
 use lib.ListN.{length, get_or, drop, set, length-set}
-use lib.Seq.{paste, paste-zero}
+use lib.Seq.{paste-zero}
 use Rattle.laws.proofs.Writing.{write_step, drop-step, paste_whole}
 use borrow.Author.Rules.{rules}
 use Rattle.listing.proofs.put_text.Goals as goal

@@ -1,7 +1,6 @@
 -- `listing::put_type`: by the definition's test. Assumes nothing.
 use borrow.Author.Tests.{eq-eqb, ne_eqb}
 use Rattle.listing.specs.Listing.{type_text}
-use borrow.Author.Rules.{rules}
 use Rattle.listing.proofs.put_type.Goals as goal
 
 pub put_text-requires : goal.put_text-requires

@@ -2,7 +2,6 @@
 use native.Mathlib.Omega.{arith}
 use Rattle.listing.specs.Listing.{volume_text}
 use Rattle.listing.proofs.Texts.{put_first, volume_size}
-use borrow.Author.Rules.{rules}
 use Rattle.listing.proofs.put_volume.Goals as goal
 
 pub put_head-next-requires : goal.put_head-next-requires

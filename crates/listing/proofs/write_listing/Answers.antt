@@ -4,7 +4,6 @@ use native.Mathlib.Omega.{arith}
 use Rattle.listing.specs.Listing.{refused_text, listing_text}
 use Rattle.listing.proofs.Texts.{listing_put}
 use Rattle.listing.proofs.Room.{refused-fits, volume_fits}
-use borrow.Author.Rules.{rules}
 use Rattle.listing.proofs.write_listing.Goals as goal
 
 pub put_refused-requires : goal.put_refused-requires

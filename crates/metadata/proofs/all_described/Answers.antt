@@ -1,13 +1,11 @@
 -- `metadata::all_described`: the least so far is not 0 where every byte so far stands in a description. Assumes nothing.
 use mathlib.Core.Path.{◌≡◌, refl, ap, ◌∙◌}
-use mathlib.Core.Bool.{Bool, false, not}
-use Prim.Native.Nat.{ℕ, ◌+◌, ◌-◌, ◌≤◌}
+use mathlib.Core.Bool.{Bool, false}
+use Prim.Native.Nat.{ℕ, ◌+◌, ◌-◌}
 use native.Mathlib.Omega.{arith}
-use lib.Dec.{eqb}
 use lib.ListN.{get_or}
 use Rattle.metadata.specs.Record.{stays_in, all_stay}
 use Rattle.metadata.proofs.Descriptions.{least_more}
-use borrow.Author.Rules.{rules}
 use Rattle.metadata.proofs.all_described.Goals as goal
 
 pub loop-k-init : goal.loop-k-init

@@ -1,13 +1,9 @@
 -- `metadata::all_described`: the least so far is not 0 where every byte so far stands in a description. Assumes nothing.
-use mathlib.Core.Path.{◌≡◌, refl, ap, ◌∙◌}
-use mathlib.Core.Bool.{Bool, false, not}
-use Prim.Native.Nat.{ℕ, ◌+◌, ◌-◌, ◌≤◌}
-use native.Mathlib.Omega.{arith}
+use mathlib.Core.Path.{◌≡◌}
+use mathlib.Core.Bool.{false, not}
+use Prim.Native.Nat.{◌-◌, ◌≤◌}
 use lib.Dec.{eqb}
-use lib.ListN.{get_or}
-use Rattle.metadata.specs.Record.{stays_in, all_stay}
-use Rattle.metadata.proofs.Descriptions.{least_more}
-use borrow.Author.Rules.{rules}
+use Rattle.metadata.specs.Record.{all_stay}
 use Rattle.metadata.proofs.all_described.Given as goal
 
 abbrev pub invariant-loop-k : goal.invariant-loop-k

@@ -1,13 +1,9 @@
 -- `metadata::behind_accession`: the description's NUL stands five bytes before the end, or the record is bad. Assumes nothing.
-use mathlib.Core.Path.{◌≡◌, sym, ◌∙◌}
+use mathlib.Core.Path.{sym, ◌∙◌}
 use mathlib.Core.Bool.{true, false}
-use Prim.Native.Nat.{◌+◌, ◌-◌}
+use Prim.Native.Nat.{◌-◌}
 use native.Mathlib.Omega.{arith}
-use borrow.Author.Tests.{not-true, not-false}
-use Rattle.metadata.specs.declared.Closing.TheVariants.{At}
-use Rattle.metadata.specs.Record.{closing}
 use Rattle.metadata.proofs.Descriptions.{short-record, no_description, description-closed}
-use borrow.Author.Rules.{rules}
 use Rattle.metadata.proofs.behind_accession.Goals as goal
 
 pub returns-then-to-a-lt6 : goal.returns-then-to-a-lt6

@@ -3,12 +3,11 @@ use mathlib.Core.Path.{◌≡◌, sym, ap, ◌∙◌}
 use mathlib.Core.Bool.{true, false}
 use Prim.Native.Nat.{◌+◌}
 use native.Mathlib.Omega.{arith}
-use borrow.Author.Tests.{eq-eqb, not-true, not-false}
+use borrow.Author.Tests.{eq-eqb}
 use mir.Syntax.{w32}
 use Rattle.laws.proofs.Signed.{again}
 use Rattle.fields.specs.Number.{signed_at}
 use Rattle.metadata.specs.Record.{is_taxonomy}
-use borrow.Author.Rules.{rules}
 use Rattle.metadata.proofs.behind_description.Goals as goal
 
 pub returns-then-not-is_taxonomy : goal.returns-then-not-is_taxonomy

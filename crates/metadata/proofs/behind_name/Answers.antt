@@ -7,7 +7,6 @@ use Rattle.metadata.specs.declared.Closing.TheVariants.{At, Open}
 use Rattle.metadata.specs.Record.{closing}
 use Rattle.metadata.proofs.Closings.{within}
 use borrow.Author.Tests.{eq-eqb, ne_eqb}
-use borrow.Author.Rules.{rules}
 use Rattle.metadata.proofs.behind_name.Goals as goal
 
 pub returns-then-n-from : goal.returns-then-n-from

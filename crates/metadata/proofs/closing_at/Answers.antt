@@ -1,13 +1,10 @@
 -- `metadata::closing_at`: what closes the text from `p` on closes it from the start on. Assumes nothing.
-use mathlib.Core.Path.{◌≡◌, refl, sym, ap, ◌∙◌}
+use mathlib.Core.Path.{refl, sym, ◌∙◌}
 use mathlib.Core.Bool.{true}
 use Prim.Native.Nat.{◌-◌}
 use native.Mathlib.Omega.{arith}
-use borrow.Author.Tests.{not-true, not-false}
 use Rattle.fields.proofs.Laws.{past_end}
-use Rattle.metadata.specs.Record.{closing}
 use Rattle.metadata.proofs.Closings.{closing_here, closing_stops, closing-next, closing-none}
-use borrow.Author.Rules.{rules}
 use Rattle.metadata.proofs.closing_at.Goals as goal
 
 pub loop-p-init : goal.loop-p-init

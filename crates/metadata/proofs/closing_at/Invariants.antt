@@ -1,13 +1,8 @@
 -- `metadata::closing_at`: what closes the text from `p` on closes it from the start on. Assumes nothing.
-use mathlib.Core.Path.{◌≡◌, refl, sym, ap, ◌∙◌}
+use mathlib.Core.Path.{◌≡◌}
 use mathlib.Core.Bool.{true}
 use Prim.Native.Nat.{◌-◌}
-use native.Mathlib.Omega.{arith}
-use borrow.Author.Tests.{not-true, not-false}
-use Rattle.fields.proofs.Laws.{past_end}
 use Rattle.metadata.specs.Record.{closing}
-use Rattle.metadata.proofs.Closings.{closing_here, closing_stops, closing-next, closing-none}
-use borrow.Author.Rules.{rules}
 use Rattle.metadata.proofs.closing_at.Given as goal
 
 abbrev pub invariant-loop-p : goal.invariant-loop-p

@@ -4,7 +4,6 @@ use mathlib.Core.Bool.{false}
 use native.Mathlib.Omega.{arith}
 use borrow.Author.Tests.{eq-eqb, ne_eqb}
 use Rattle.metadata.proofs.Descriptions.{past-closed}
-use borrow.Author.Rules.{rules}
 use Rattle.metadata.proofs.is_description.Goals as goal
 
 pub returns-then-file-nul : goal.returns-then-file-nul

@@ -6,7 +6,6 @@ use native.Mathlib.Omega.{arith}
 use Rattle.metadata.specs.declared.Closing.TheVariants.{At, Open}
 use Rattle.metadata.specs.Record.{closing, texts_in}
 use Rattle.metadata.proofs.Closings.{within}
-use borrow.Author.Rules.{rules}
 use Rattle.metadata.proofs.read_record.Goals as goal
 
 pub returns-in_default : goal.returns-in_default

@@ -6,7 +6,6 @@ use lib.Count.{ones}
 use borrow.Author.Tests.{lt-ltb, le-ltb}
 use Rattle.nucleotides.specs.declared.BasesAnswer.TheVariants.{Bases}
 use Rattle.nucleotides.specs.Write.{bases_answer, base_count}
-use borrow.Author.Rules.{rules}
 use Rattle.nucleotides.proofs.bases_of_code.Goals as goal
 
 pub returns-then-code-gt15 : goal.returns-then-code-gt15

@@ -2,7 +2,6 @@
 use native.Mathlib.Omega.{arith}
 use Prim.Native.Nat.{◌*◌, ◌-◌}
 use Rattle.sequence.proofs.Ranges.{repeat_shift, power_shifted}
-use borrow.Author.Rules.{rules}
 use Rattle.nucleotides.proofs.most_repeat.Goals as goal
 
 pub overflow_mul-result : goal.overflow_mul-result

@@ -3,7 +3,6 @@ use mathlib.Core.Path.{refl}
 use mathlib.Core.Logic.{inl, inr}
 use Rattle.nucleotides.specs.Pieces.{most_narrow}
 use borrow.Author.Tests.{lt-ltb, le-ltb}
-use borrow.Author.Rules.{rules}
 use Rattle.nucleotides.proofs.width_of.Goals as goal
 
 pub returns-then-l-gt-MOST_NARROW : goal.returns-then-l-gt-MOST_NARROW

@@ -1,6 +1,5 @@
 -- `nucleotides::word_size`: by the count. Assumes nothing.
 use borrow.Author.Tests.{eq-eqb, ne_eqb}
-use borrow.Author.Rules.{rules}
 use Rattle.nucleotides.proofs.word_size.Goals as goal
 
 pub returns-then-n-eq0 : goal.returns-then-n-eq0

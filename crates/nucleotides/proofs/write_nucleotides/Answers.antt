@@ -12,7 +12,6 @@ use Rattle.nucleotides.proofs.Stretches.{pieces-count}
 use Rattle.nucleotides.proofs.Entries.{entries-most, word_most}
 use Rattle.nucleotides.proofs.Answers.{output_by, refused_both, answer-large, answer-bad, answer-wide, answer-short, answer_written}
 use Rattle.nucleotides.proofs.Answers.{count_told, size_told}
-use borrow.Author.Rules.{rules}
 use Rattle.nucleotides.proofs.write_nucleotides.Goals as goal
 
 -- the sizes that were counted are those of the definition

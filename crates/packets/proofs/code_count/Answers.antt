@@ -3,7 +3,6 @@ use mathlib.Core.Path.{sym, ap, ◌∙◌}
 use Rattle.packets.proofs.Codes.{codes_five, codes_two}
 use Rattle.laws.proofs.Digits.{length_digits}
 use lib.ListN.{length}
-use borrow.Author.Rules.{rules}
 use Rattle.packets.proofs.code_count.Goals as goal
 
 pub returns-then-is_five_bit : goal.returns-then-is_five_bit

@@ -1,11 +1,8 @@
 -- `packets::codes_tailed`: the codes still to read decide. Assumes nothing.
-use mathlib.Core.Path.{◌≡◌, refl, sym, ◌∙◌}
-use Prim.Native.Nat.{◌≤◌, ◌-◌}
+use mathlib.Core.Path.{refl, sym, ◌∙◌}
+use Prim.Native.Nat.{◌-◌}
 use native.Mathlib.Omega.{arith}
-use Rattle.laws.specs.Digits.{digits}
-use Rattle.packets.specs.Runs.{valid_tailed}
 use Rattle.packets.proofs.Codes.{tailed_next, tailed_fill, tailed_stops, tailed_done}
-use borrow.Author.Rules.{rules}
 use Rattle.packets.proofs.codes_tailed.Goals as goal
 
 pub loop-n-init : goal.loop-n-init

@@ -1,11 +1,8 @@
 -- `packets::codes_tailed`: the codes still to read decide. Assumes nothing.
-use mathlib.Core.Path.{◌≡◌, refl, sym, ◌∙◌}
+use mathlib.Core.Path.{◌≡◌}
 use Prim.Native.Nat.{◌≤◌, ◌-◌}
-use native.Mathlib.Omega.{arith}
 use Rattle.laws.specs.Digits.{digits}
 use Rattle.packets.specs.Runs.{valid_tailed}
-use Rattle.packets.proofs.Codes.{tailed_next, tailed_fill, tailed_stops, tailed_done}
-use borrow.Author.Rules.{rules}
 use Rattle.packets.proofs.codes_tailed.Given as goal
 
 abbrev pub invariant-loop-n : goal.invariant-loop-n

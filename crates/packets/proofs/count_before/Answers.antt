@@ -1,12 +1,9 @@
 -- `packets::count_before`: the codes counted and those still to read. Assumes nothing.
-use mathlib.Core.Path.{◌≡◌, ap}
-use Prim.Native.Nat.{◌≤◌, ◌-◌, ◌+◌}
+use mathlib.Core.Path.{ap}
+use Prim.Native.Nat.{◌-◌}
 use native.Mathlib.Omega.{arith}
 use lib.ListN.{length}
-use Rattle.laws.specs.Digits.{digits}
-use Rattle.packets.specs.Runs.{before_fill}
 use Rattle.packets.proofs.Codes.{before-next, before-ends, before-done}
-use borrow.Author.Rules.{rules}
 use Rattle.packets.proofs.count_before.Goals as goal
 
 pub loop-n-init : goal.loop-n-init

@@ -9,7 +9,6 @@ use Rattle.laws.specs.Digits.{digits}
 use Rattle.laws.proofs.Digits.{length_digits}
 use Rattle.packets.specs.Runs.{residues}
 use Rattle.packets.proofs.Codes.{before_le, before_prefix, residues_five, residues_two, residues_put_lem, residues_lost}
-use borrow.Author.Rules.{rules}
 use Rattle.packets.proofs.decode.Goals as goal
 
 pub put_first-requires : goal.put_first-requires

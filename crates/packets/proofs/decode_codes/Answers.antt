@@ -10,7 +10,6 @@ use Rattle.laws.specs.Digits.{digits}
 use Rattle.laws.proofs.Digits.{length_digits}
 use Rattle.packets.specs.Runs.{codes_in}
 use Rattle.packets.proofs.Codes.{codes_five, codes_two, codes_put_lem, codes_lost}
-use borrow.Author.Rules.{rules}
 use Rattle.packets.proofs.decode_codes.Goals as goal
 
 pub put_first-requires : goal.put_first-requires

@@ -3,7 +3,6 @@ use Prim.Native.Nat.{◌*◌, ◌/◌}
 use native.Mathlib.Omega.{arith}
 use lib.Bits.{and_le_r}
 use Rattle.packets.proofs.Fours.{four_codes}
-use borrow.Author.Rules.{rules}
 use Rattle.packets.proofs.four_codes.Goals as goal
 
 pub overflow_cast-result : goal.overflow_cast-result

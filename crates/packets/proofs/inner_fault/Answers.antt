@@ -3,7 +3,6 @@ use mathlib.Core.Path.{sym, ap, ◌∙◌}
 use Prim.Native.Nat.{ℕ}
 use Rattle.packets.specs.Runs.{inner}
 use Rattle.packets.proofs.Faults.{inner_nucleic}
-use borrow.Author.Rules.{rules}
 use Rattle.packets.proofs.inner_fault.Goals as goal
 
 pub returns-then-alphabet-eq3 : goal.returns-then-alphabet-eq3

@@ -1,8 +1,6 @@
 -- `packets::is_final`: by bits 31 and 30. Assumes nothing.
 use mathlib.Core.Path.{sym, ◌∙◌}
-use borrow.Author.Tests.{not-true, not-false}
 use Rattle.packets.proofs.Codes.{final_goes, final_five, final_two}
-use borrow.Author.Rules.{rules}
 use Rattle.packets.proofs.is_final.Goals as goal
 
 pub returns-then-not-ends_run : goal.returns-then-not-ends_run

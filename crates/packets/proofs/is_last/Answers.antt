@@ -1,8 +1,6 @@
 -- `packets::is_last`: it may be a run's last, and has residues unless it is the whole run. Assumes nothing.
 use mathlib.Core.Path.{sym, ◌∙◌}
-use borrow.Author.Tests.{not-true, not-false}
 use Rattle.packets.proofs.Round.{formed-one}
-use borrow.Author.Rules.{rules}
 use Rattle.packets.proofs.is_last.Goals as goal
 
 pub returns-then-not-is_final : goal.returns-then-not-is_final

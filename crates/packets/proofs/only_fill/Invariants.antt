@@ -1,11 +1,8 @@
 -- `packets::only_fill`: the codes still to read decide. Assumes nothing.
-use mathlib.Core.Path.{◌≡◌, refl, sym, ◌∙◌}
+use mathlib.Core.Path.{◌≡◌}
 use Prim.Native.Nat.{◌≤◌, ◌-◌}
-use native.Mathlib.Omega.{arith}
 use Rattle.laws.specs.Digits.{digits}
 use Rattle.packets.specs.Runs.{only_fill}
-use Rattle.packets.proofs.Codes.{fill_next, fill_stops, fill_done}
-use borrow.Author.Rules.{rules}
 use Rattle.packets.proofs.only_fill.Given as goal
 
 abbrev pub invariant-loop-n : goal.invariant-loop-n

@@ -1,12 +1,11 @@
 -- `packets::put_first`: the codes written so far and those still to write are the digits of the packet. Assumes nothing.
 use mathlib.Core.Path.{◌≡◌, refl, ◌∙◌}
-use Prim.Native.Nat.{◌≤◌, ◌-◌, ◌+◌}
+use Prim.Native.Nat.{◌-◌}
 use native.Mathlib.Omega.{arith}
-use lib.ListN.{length, drop, length-set}
-use lib.Seq.{paste, paste-zero}
+use lib.ListN.{length-set}
+use lib.Seq.{paste-zero}
 use Rattle.laws.specs.Digits.{digits}
 use Rattle.packets.proofs.Codes.{put_step, put_rest, put_done}
-use borrow.Author.Rules.{rules}
 use Rattle.packets.proofs.put_first.Goals as goal
 
 pub loop-i-init : goal.loop-i-init

@@ -1,12 +1,9 @@
 -- `packets::put_first`: the codes written so far and those still to write are the digits of the packet. Assumes nothing.
-use mathlib.Core.Path.{◌≡◌, refl, ◌∙◌}
+use mathlib.Core.Path.{◌≡◌}
 use Prim.Native.Nat.{◌≤◌, ◌-◌, ◌+◌}
-use native.Mathlib.Omega.{arith}
-use lib.ListN.{length, drop, length-set}
-use lib.Seq.{paste, paste-zero}
+use lib.ListN.{length, drop}
+use lib.Seq.{paste}
 use Rattle.laws.specs.Digits.{digits}
-use Rattle.packets.proofs.Codes.{put_step, put_rest, put_done}
-use borrow.Author.Rules.{rules}
 use Rattle.packets.proofs.put_first.Given as goal
 
 abbrev pub invariant-loop-i : goal.invariant-loop-i

@@ -5,7 +5,6 @@ use Prim.Native.Nat.{ℕ, ◌+◌}
 use Rattle.fields.specs.Number.{little}
 use Rattle.fields.specs.Written.{number_put}
 use Rattle.packets.proofs.Fours.{fours_written}
-use borrow.Author.Rules.{rules}
 use Rattle.packets.proofs.put_two.Goals as goal
 
 pub returns : goal.returns

@@ -1,10 +1,8 @@
 -- `packets::residue_count`: by bit 30. Assumes nothing.
-use borrow.Author.Tests.{not-true, not-false}
 use mathlib.Core.Path.{sym, ap, ◌∙◌}
 use Rattle.packets.proofs.Codes.{residues_five, residues_two}
 use Rattle.laws.proofs.Digits.{length_digits}
 use lib.ListN.{length}
-use borrow.Author.Rules.{rules}
 use Rattle.packets.proofs.residue_count.Goals as goal
 
 pub returns-then-not-is_five_bit : goal.returns-then-not-is_five_bit

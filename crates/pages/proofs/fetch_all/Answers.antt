@@ -7,9 +7,8 @@ use lib.ListN.{length, get_or, set, take, drop, length-set, length-drop}
 use Rattle.answers.specs.declared.Refusal.{Refusal}
 use Rattle.sequence.specs.declared.DecodeAnswer.TheVariants.{Decoded, Refused}
 use Rattle.sequence.proofs.Decoded.{decoded_fits}
-use Rattle.pages.specs.Page.{Progress, begun, left, item_answer, item_output, counted, stopped, fetch_all}
+use Rattle.pages.specs.Page.{Progress, begun, left, item_answer, item_output, stopped, fetch_all}
 use Rattle.pages.proofs.Steps.{same_parts, output_kept, item-done, output-size, list_goes_on, list_stops, list-ends, lent_answer, lent_output}
-use borrow.Author.Rules.{rules}
 use Rattle.pages.proofs.fetch_all.Goals as goal
 
 -- How far the page is.

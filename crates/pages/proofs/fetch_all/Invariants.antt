@@ -1,15 +1,9 @@
 -- `pages::fetch_all`: what is left of the list, from how far the page is, comes to what the whole list comes to. Assumes nothing.
-use mathlib.Core.Path.{◌≡◌, refl, sym, ap, ◌∙◌}
-use mathlib.Core.List.{List, ◌++◌}
-use Prim.Native.Nat.{ℕ, ◌+◌, ◌-◌, ◌≤◌}
-use native.Mathlib.Omega.{arith}
-use lib.ListN.{length, get_or, set, take, drop, length-set, length-drop}
-use Rattle.answers.specs.declared.Refusal.{Refusal}
-use Rattle.sequence.specs.declared.DecodeAnswer.TheVariants.{Decoded, Refused}
-use Rattle.sequence.proofs.Decoded.{decoded_fits}
-use Rattle.pages.specs.Page.{Progress, begun, left, item_answer, item_output, counted, stopped, fetch_all}
-use Rattle.pages.proofs.Steps.{same_parts, output_kept, item-done, output-size, list_goes_on, list_stops, list-ends, lent_answer, lent_output}
-use borrow.Author.Rules.{rules}
+use mathlib.Core.Path.{◌≡◌}
+use mathlib.Core.List.{List}
+use Prim.Native.Nat.{ℕ, ◌-◌, ◌≤◌}
+use lib.ListN.{length, drop}
+use Rattle.pages.specs.Page.{Progress, begun, fetch_all}
 use Rattle.pages.proofs.fetch_all.Given as goal
 
 abbrev at : List ℕ → List ℕ → ℕ → ℕ → Progress

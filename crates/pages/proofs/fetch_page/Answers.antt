@@ -3,7 +3,6 @@ use mathlib.Core.Path.{◌∙◌}
 use mathlib.Core.List.{List}
 use Prim.Native.Nat.{ℕ}
 use Rattle.pages.proofs.Steps.{same_parts, index_large, sequence_large, ends-short, page_items}
-use borrow.Author.Rules.{rules}
 use Rattle.pages.proofs.fetch_page.Goals as goal
 
 pub returns-then-index-gt-MOST_BYTES : goal.returns-then-index-gt-MOST_BYTES

@@ -2,7 +2,6 @@
 use mathlib.Core.Path.{sym}
 use lib.ListN.{get_or-eq_default}
 use Rattle.residues.specs.Tables.{ambiguity_codes}
-use borrow.Author.Rules.{rules}
 use Rattle.residues.proofs.ambiguity_code.Goals as goal
 
 pub returns-then-v-gt15 : goal.returns-then-v-gt15

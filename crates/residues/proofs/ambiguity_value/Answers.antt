@@ -7,7 +7,6 @@ use lib.ListN.{get_or-eq_default}
 use borrow.Author.Tests.{eqb-true}
 use Rattle.laws.proofs.Places.{every_at}
 use Rattle.residues.specs.Tables.{ambiguity_value, ambiguity_values}
-use borrow.Author.Rules.{rules}
 use Rattle.residues.proofs.ambiguity_value.Goals as goal
 
 pub returns-then-code-gt15 : goal.returns-then-code-gt15

@@ -1,11 +1,9 @@
 -- `residues::largest_code`: the largest of the codes read so far. Assumes nothing.
 use mathlib.Core.Path.{◌≡◌, refl, ◌∙◌}
-use Prim.Native.Nat.{◌≤◌, ◌-◌}
+use Prim.Native.Nat.{◌-◌}
 use native.Mathlib.Omega.{arith}
 use lib.ListN.{length, get_or}
-use Rattle.laws.specs.Places.{largest_to}
 use Rattle.laws.proofs.Places.{largest-more}
-use borrow.Author.Rules.{rules}
 use Rattle.residues.proofs.largest_code.Goals as goal
 
 pub loop-i-init : goal.loop-i-init

@@ -1,11 +1,8 @@
 -- `residues::largest_code`: the largest of the codes read so far. Assumes nothing.
-use mathlib.Core.Path.{◌≡◌, refl, ◌∙◌}
+use mathlib.Core.Path.{◌≡◌}
 use Prim.Native.Nat.{◌≤◌, ◌-◌}
-use native.Mathlib.Omega.{arith}
 use lib.ListN.{length, get_or}
 use Rattle.laws.specs.Places.{largest_to}
-use Rattle.laws.proofs.Places.{largest-more}
-use borrow.Author.Rules.{rules}
 use Rattle.residues.proofs.largest_code.Given as goal
 
 abbrev pub invariant-loop-i : goal.invariant-loop-i

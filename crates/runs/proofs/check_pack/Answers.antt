@@ -1,11 +1,10 @@
 -- `runs::check_pack`: rule by rule. Assumes nothing.
 use mathlib.Core.Path.{◌≡◌, sym, ◌∙◌}
-use borrow.Author.Tests.{le-leb, lt-leb, not-true, not-false}
+use borrow.Author.Tests.{le-leb, lt-leb}
 use lib.ListN.{length}
 use mathlib.Core.Bool.{true}
 use lib.Dec.{leb}
 use Rattle.residues.specs.Alphabets.{is_alphabet, valid_codes}
-use borrow.Author.Rules.{rules}
 use Rattle.runs.proofs.check_pack.Goals as goal
 
 -- the rules that were asked and hold

@@ -1,12 +1,10 @@
 -- `runs::count_codes`: the codes of the packets so far. Assumes nothing.
 use mathlib.Core.Path.{◌≡◌, refl, ◌∙◌}
-use Prim.Native.Nat.{◌≤◌, ◌-◌}
+use Prim.Native.Nat.{◌-◌}
 use native.Mathlib.Omega.{arith}
 use lib.ListN.{get_or}
-use Rattle.packets.specs.Reading.{codes_to}
 use Rattle.packets.proofs.Codes.{codes-count}
 use Rattle.packets.proofs.Reading.{codes-fives, codes-more}
-use borrow.Author.Rules.{rules}
 use Rattle.runs.proofs.count_codes.Goals as goal
 
 pub loop-i-init : goal.loop-i-init

@@ -1,12 +1,7 @@
 -- `runs::count_codes`: the codes of the packets so far. Assumes nothing.
-use mathlib.Core.Path.{◌≡◌, refl, ◌∙◌}
+use mathlib.Core.Path.{◌≡◌}
 use Prim.Native.Nat.{◌≤◌, ◌-◌}
-use native.Mathlib.Omega.{arith}
-use lib.ListN.{get_or}
 use Rattle.packets.specs.Reading.{codes_to}
-use Rattle.packets.proofs.Codes.{codes-count}
-use Rattle.packets.proofs.Reading.{codes-fives, codes-more}
-use borrow.Author.Rules.{rules}
 use Rattle.runs.proofs.count_codes.Given as goal
 
 abbrev pub invariant-loop-i : goal.invariant-loop-i

@@ -1,12 +1,11 @@
 -- `runs::count_run`: the packets counted so far, and those of the codes still to read. Assumes nothing.
-use Rattle.packets.specs.Packing.{size, run}
+use Rattle.packets.specs.Packing.{size}
 use Rattle.packets.proofs.Packing.{size-some}
 use Rattle.runs.proofs.Turns.{size_is, count-ends, count_goes}
 use mathlib.Core.Path.{◌≡◌}
-use Prim.Native.Nat.{◌≤◌, ◌<◌, ◌-◌, ◌+◌}
+use Prim.Native.Nat.{◌<◌, ◌-◌}
 use native.Mathlib.Omega.{arith}
 use lib.ListN.{length, drop, length-drop}
-use borrow.Author.Rules.{rules}
 use Rattle.runs.proofs.count_run.Goals as goal
 
 -- the next packet's size, and that it takes a residue where one is left

@@ -1,12 +1,8 @@
 -- `runs::count_run`: the packets counted so far, and those of the codes still to read. Assumes nothing.
-use Rattle.packets.specs.Packing.{size, run}
-use Rattle.packets.proofs.Packing.{size-some}
-use Rattle.runs.proofs.Turns.{size_is, count-ends, count_goes}
+use Rattle.packets.specs.Packing.{run}
 use mathlib.Core.Path.{◌≡◌}
-use Prim.Native.Nat.{◌≤◌, ◌<◌, ◌-◌, ◌+◌}
-use native.Mathlib.Omega.{arith}
-use lib.ListN.{length, drop, length-drop}
-use borrow.Author.Rules.{rules}
+use Prim.Native.Nat.{◌≤◌, ◌-◌, ◌+◌}
+use lib.ListN.{length, drop}
 use Rattle.runs.proofs.count_run.Given as goal
 
 abbrev pub invariant-loop-alphabet : goal.invariant-loop-alphabet

@@ -1,11 +1,8 @@
 -- `runs::inner_faults`: 0 so far where each packet so far may stand there. Assumes nothing.
 use mathlib.Core.Path.{◌≡◌, refl, ◌∙◌}
-use Prim.Native.Nat.{◌≤◌, ◌-◌}
+use Prim.Native.Nat.{◌-◌}
 use native.Mathlib.Omega.{arith}
-use lib.Dec.{eqb}
-use Rattle.packets.specs.Reading.{inner_to}
 use Rattle.packets.proofs.Reading.{inner-more}
-use borrow.Author.Rules.{rules}
 use Rattle.runs.proofs.inner_faults.Goals as goal
 
 pub loop-i-init : goal.loop-i-init

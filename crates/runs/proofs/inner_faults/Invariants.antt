@@ -1,11 +1,8 @@
 -- `runs::inner_faults`: 0 so far where each packet so far may stand there. Assumes nothing.
-use mathlib.Core.Path.{◌≡◌, refl, ◌∙◌}
+use mathlib.Core.Path.{◌≡◌}
 use Prim.Native.Nat.{◌≤◌, ◌-◌}
-use native.Mathlib.Omega.{arith}
 use lib.Dec.{eqb}
 use Rattle.packets.specs.Reading.{inner_to}
-use Rattle.packets.proofs.Reading.{inner-more}
-use borrow.Author.Rules.{rules}
 use Rattle.runs.proofs.inner_faults.Given as goal
 
 abbrev pub invariant-loop-i : goal.invariant-loop-i

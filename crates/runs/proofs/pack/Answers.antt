@@ -5,7 +5,6 @@ use Rattle.packets.specs.Packing.{run}
 use Rattle.runs.proofs.Answers.{check_refused, check_passed, pack_done, packets_kept, packets_written}
 use Rattle.runs.specs.declared.PackAnswer.TheVariants.{Packed}
 use Prim.Native.Nat.{ℕ}
-use borrow.Author.Rules.{rules}
 use Rattle.runs.proofs.pack.Goals as goal
 
 pub write_run-count-requires : goal.write_run-count-requires

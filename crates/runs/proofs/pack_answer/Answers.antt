@@ -4,7 +4,6 @@ use lib.ListN.{length}
 use Rattle.runs.proofs.Answers.{check_refused, check_passed, pack_done}
 use Rattle.runs.specs.declared.PackAnswer.TheVariants.{Packed}
 use Prim.Native.Nat.{ℕ}
-use borrow.Author.Rules.{rules}
 use Rattle.runs.proofs.pack_answer.Goals as goal
 
 pub returns-in-Refused : goal.returns-in-Refused

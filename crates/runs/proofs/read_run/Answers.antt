@@ -5,10 +5,9 @@ use Rattle.packets.specs.Reading.{inner_to}
 use mathlib.Core.List.{List}
 use Prim.Native.Nat.{ℕ, ◌-◌}
 use native.Mathlib.Omega.{arith}
-use borrow.Author.Tests.{eq-eqb, ne_eqb, not-true, not-false}
+use borrow.Author.Tests.{eq-eqb, ne_eqb}
 use lib.ListN.{length}
 use Rattle.packets.proofs.Reading.{found_none, found_broken, found_open, found_most, found_run}
-use borrow.Author.Rules.{rules}
 use Rattle.runs.proofs.read_run.Goals as goal
 
 -- no packet before the last has a fault

@@ -8,7 +8,6 @@ use Rattle.packets.specs.Packing.{run}
 use Rattle.packets.proofs.Lengths.{run-most}
 use Rattle.packets.proofs.Packing.{run-some}
 use Rattle.laws.proofs.Numbers.{fits-behind}
-use borrow.Author.Rules.{rules}
 use Rattle.runs.proofs.run_fits.Goals as goal
 
 pub returns-then-room-at : goal.returns-then-room-at

@@ -2,7 +2,6 @@
 use mathlib.Core.Path.{sym, ◌∙◌}
 use borrow.Author.Tests.{eq-eqb}
 use Rattle.packets.proofs.Lengths.{run_amino}
-use borrow.Author.Rules.{rules}
 use Rattle.runs.proofs.run_length.Goals as goal
 
 pub returns-then-alphabet-eq3 : goal.returns-then-alphabet-eq3

@@ -2,7 +2,6 @@
 use mathlib.Core.Path.{sym, ◌∙◌}
 use lib.ListN.{length}
 use Rattle.runs.proofs.Answers.{unpacked_may, codes_kept, codes_written}
-use borrow.Author.Rules.{rules}
 use Rattle.runs.proofs.unpack.Goals as goal
 
 pub write_residues-requires : goal.write_residues-requires

@@ -3,7 +3,6 @@ use mathlib.Core.Path.{◌≡◌, sym, ap, ◌∙◌}
 use mathlib.Core.Bool.{true}
 use Prim.Native.Nat.{ℕ}
 use native.Mathlib.Omega.{arith}
-use borrow.Author.Tests.{not-true, not-false}
 use lib.ListN.{length}
 use Rattle.residues.specs.Alphabets.{is_alphabet}
 use Rattle.packets.specs.Runs.{well_formed, unpacked}
@@ -11,7 +10,6 @@ use Rattle.packets.proofs.Reading.{read-formed, read-not}
 use Rattle.runs.specs.Answers.{unpack_answer}
 use Rattle.runs.specs.declared.UnpackAnswer.TheVariants.{Unpacked}
 use Rattle.runs.proofs.Answers.{RunAnswer, unpack_large, unpack_as, run_wrong, run-bad, run_full, run-done}
-use borrow.Author.Rules.{rules}
 use Rattle.runs.proofs.unpack_answer.Goals as goal
 
 -- the rules that were asked and hold, and the run that was read

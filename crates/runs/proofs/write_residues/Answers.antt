@@ -1,16 +1,13 @@
 -- `runs::write_residues`: the codes written so far, and the residues of the last packet. Assumes nothing.
-use mathlib.Core.Path.{◌≡◌, refl, ap, ◌∙◌}
-use Prim.Native.Nat.{ℕ, ◌+◌, ◌-◌, ◌≤◌, ◌<◌}
+use mathlib.Core.Path.{◌≡◌, refl, ◌∙◌}
+use Prim.Native.Nat.{◌+◌, ◌-◌, ◌≤◌}
 use native.Mathlib.Nat.{zero-add}
 use native.Mathlib.Omega.{arith}
 use lib.ListN.{length, drop, get_or}
-use Rattle.laws.specs.Writing.{Begun}
 use Rattle.packets.specs.Runs.{codes_in, residues, unpacked}
-use Rattle.packets.specs.Decoded.{codes_from}
 use Rattle.packets.proofs.Behind.{begun-start, none_yet, behind-room, behind_more, behind-count, last-room, behind-last}
 use Rattle.packets.proofs.Codes.{codes_put_lem, residues_put_lem}
 use Rattle.packets.proofs.Shapes.{well_some}
-use borrow.Author.Rules.{rules}
 use Rattle.runs.proofs.write_residues.Goals as goal
 
 pub overflow_sub-last : goal.overflow_sub-last

@@ -1,14 +1,13 @@
 -- `runs::write_run`: the packets written so far, and the run of the codes still to read. Assumes nothing.
 use mathlib.Core.Path.{◌≡◌, refl, ap, ◌∙◌}
-use Prim.Native.Nat.{ℕ, ◌≤◌, ◌<◌, ◌-◌, ◌+◌}
+use Prim.Native.Nat.{ℕ, ◌<◌, ◌-◌, ◌+◌}
 use native.Mathlib.Omega.{arith}
 use lib.ListN.{length, drop, length-set, length-drop}
-use lib.Seq.{paste, paste-zero}
+use lib.Seq.{paste-zero}
 use mathlib.Core.List.{List, [], ◌∷◌}
 use Rattle.packets.specs.Packing.{size, packet, run}
 use Rattle.packets.proofs.Packing.{size-some, run-some}
 use Rattle.runs.proofs.Turns.{size_is, packet-is, run_ends, run_goes, store_goes, store_rest, store_count, store_ends}
-use borrow.Author.Rules.{rules}
 use Rattle.runs.proofs.write_run.Goals as goal
 
 -- what `encode` says of the next packet, and that a packet is still to be written

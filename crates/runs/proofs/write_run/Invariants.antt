@@ -1,14 +1,9 @@
 -- `runs::write_run`: the packets written so far, and the run of the codes still to read. Assumes nothing.
-use mathlib.Core.Path.{◌≡◌, refl, ap, ◌∙◌}
-use Prim.Native.Nat.{ℕ, ◌≤◌, ◌<◌, ◌-◌, ◌+◌}
-use native.Mathlib.Omega.{arith}
-use lib.ListN.{length, drop, length-set, length-drop}
-use lib.Seq.{paste, paste-zero}
-use mathlib.Core.List.{List, [], ◌∷◌}
-use Rattle.packets.specs.Packing.{size, packet, run}
-use Rattle.packets.proofs.Packing.{size-some, run-some}
-use Rattle.runs.proofs.Turns.{size_is, packet-is, run_ends, run_goes, store_goes, store_rest, store_count, store_ends}
-use borrow.Author.Rules.{rules}
+use mathlib.Core.Path.{◌≡◌}
+use Prim.Native.Nat.{◌≤◌, ◌-◌}
+use lib.ListN.{length, drop}
+use lib.Seq.{paste}
+use Rattle.packets.specs.Packing.{run}
 use Rattle.runs.proofs.write_run.Given as goal
 
 abbrev pub invariant-loop-alphabet : goal.invariant-loop-alphabet

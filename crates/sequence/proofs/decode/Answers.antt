@@ -3,7 +3,6 @@ use lib.ListN.{length}
 use mathlib.Core.Path.{sym, ◌∙◌}
 use Rattle.volume.proofs.Reading.{index_read}
 use Rattle.sequence.proofs.Answers.{decode_large, decode_unread, decode_read, output_by}
-use borrow.Author.Rules.{rules}
 use Rattle.sequence.proofs.decode.Goals as goal
 
 pub returns-then-sequence-gt-MOST_BYTES : goal.returns-then-sequence-gt-MOST_BYTES

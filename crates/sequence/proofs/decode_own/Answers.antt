@@ -12,7 +12,6 @@ use Rattle.sequence.specs.Sequence.{written_by}
 use Rattle.sequence.proofs.Own.{start_sign}
 use Rattle.sequence.proofs.Answers.{numbers_of, kind_protein, kind_dna, own_none, own_negative, own_placed_protein, own_placed_dna}
 use Rattle.sequence.proofs.Answers.{placed_protein_lem, placed_dna_lem}
-use borrow.Author.Rules.{rules}
 use Rattle.sequence.proofs.decode_own.Goals as goal
 
 pub returns-then-x-number : goal.returns-then-x-number

@@ -2,7 +2,6 @@
 use mathlib.Core.Path.{sym, ◌∙◌}
 use borrow.Author.Tests.{le-leb, lt-leb}
 use Rattle.timing.proofs.Sets.{set-refused, set-short, set_passed}
-use borrow.Author.Rules.{rules}
 use Rattle.timing.proofs.gull_time_check_set.Goals as goal
 
 pub returns-then-results-lt-CHECK_SET_RESULTS : goal.returns-then-results-lt-CHECK_SET_RESULTS

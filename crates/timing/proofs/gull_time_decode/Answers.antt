@@ -1,7 +1,6 @@
 -- `timing::gull_time_decode`: the number of decoding's answer; the output is what decoding leaves. Assumes nothing.
 use mathlib.Core.Path.{sym, ap, ◌∙◌}
 use Rattle.sequence.specs.Sequence.{decode_number}
-use borrow.Author.Rules.{rules}
 use Rattle.timing.proofs.gull_time_decode.Goals as goal
 
 pub returns-in-Refused : goal.returns-in-Refused

@@ -8,7 +8,6 @@ use Rattle.volume.specs.Tables.{offset_rules, separator_rules, total_rules}
 use Rattle.volume.specs.Volume.{volume_size_rules, volume_rules}
 use Rattle.volume.proofs.Facts.{few-sequences, whole_tables}
 use Rattle.volume.proofs.Reading.{index_read, index_first, index_refused, size_asked}
-use borrow.Author.Rules.{rules}
 use Rattle.volume.proofs.check_rules.Goals as goal
 
 pub returns-in-Refused : goal.returns-in-Refused

@@ -3,7 +3,6 @@ use mathlib.Core.Path.{sym}
 use Rattle.answers.proofs.Alone.{refused-alone, passed_alone}
 use Rattle.volume.specs.declared.VolumeAnswer.TheVariants.{Passed, Refused}
 use Rattle.volume.specs.Volume.{volume_rules, volume_record, volume_answer}
-use borrow.Author.Rules.{rules}
 use Rattle.volume.proofs.check_volume.Goals as goal
 
 pub returns-in-Refused : goal.returns-in-Refused

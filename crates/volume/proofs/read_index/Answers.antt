@@ -4,7 +4,6 @@ use borrow.Author.Tests.{lt-leb, le-leb}
 use Rattle.answers.proofs.Alone.{refused-alone, passed_alone}
 use Rattle.volume.specs.declared.IndexAnswer.TheVariants.{Read, Refused}
 use Rattle.volume.specs.Index.{index_of, index_rules}
-use borrow.Author.Rules.{rules}
 use Rattle.volume.proofs.read_index.Goals as goal
 
 pub returns-then-index-gt-MOST_BYTES : goal.returns-then-index-gt-MOST_BYTES

@@ -9,7 +9,6 @@ use lib.Dec.{ltb}
 use Rattle.volume.specs.Index.{sequences}
 use Rattle.volume.specs.Tables.{sequence_start, length_of_number}
 use Rattle.volume.proofs.Lengths.{place_at, protein-length, dna-length}
-use borrow.Author.Rules.{rules}
 use Rattle.volume.proofs.sequence_length.Goals as goal
 
 -- there is such a sequence, and its start is read

@@ -1,10 +1,7 @@
 -- `volume::trimmed`: the loop keeps that the bytes passed were NULs. Assumes nothing.
-use mathlib.Core.Path.{◌≡◌, sym, ◌∙◌}
-use native.Mathlib.Omega.{arith}
+use mathlib.Core.Path.{◌≡◌}
 use Prim.Native.Nat.{◌≤◌, ◌-◌}
 use Rattle.volume.specs.Volume.{trimmed_length}
-use Rattle.volume.proofs.Facts.{trim_less, trim_stop}
-use borrow.Author.Rules.{rules}
 use Rattle.volume.proofs.trimmed.Given as goal
 
 abbrev pub invariant-loop-n : goal.invariant-loop-n

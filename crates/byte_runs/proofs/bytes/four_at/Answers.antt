@@ -2,7 +2,6 @@
 use mathlib.Core.Path.{refl, ◌∙◌}
 use native.Mathlib.Nat.{add-zero}
 use Rattle.fields.proofs.Laws.{four_read}
-use borrow.Author.Rules.{rules}
 use Rattle.byte_runs.proofs.bytes.four_at.Goals as goal
 
 pub returns : goal.returns

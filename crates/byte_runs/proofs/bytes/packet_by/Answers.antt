@@ -1,7 +1,6 @@
 -- `byte_runs::bytes::packet_by`: the number of its word in the order. Assumes nothing.
 use mathlib.Core.Path.{◌∙◌}
 use Rattle.byte_runs.proofs.Stores.{word_packet}
-use borrow.Author.Rules.{rules}
 use Rattle.byte_runs.proofs.bytes.packet_by.Goals as goal
 
 pub returns : goal.returns

@@ -3,7 +3,6 @@ use native.Mathlib.Omega.{arith}
 use mathlib.Core.Path.{◌∙◌}
 use lib.ListN.{length}
 use Rattle.byte_runs.proofs.Stores.{packet_put}
-use borrow.Author.Rules.{rules}
 use Rattle.byte_runs.proofs.bytes.put_packet.Goals as goal
 
 pub returns : goal.returns

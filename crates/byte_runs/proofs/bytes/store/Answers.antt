@@ -1,14 +1,13 @@
 -- `byte_runs::bytes::store`: what is written so far, and what is left to write, are the number's bytes. Assumes nothing.
 use mathlib.Core.Path.{◌≡◌, refl, ap, ◌∙◌}
 use mathlib.Core.List.{List}
-use Prim.Native.Nat.{ℕ, ◌≤◌, ◌-◌, ◌+◌, ◌/◌, ◌%◌}
+use Prim.Native.Nat.{ℕ, ◌-◌, ◌+◌, ◌/◌, ◌%◌}
 use native.Mathlib.Omega.{arith}
-use lib.ListN.{length, drop, set, length-set}
-use lib.Seq.{paste, paste-zero}
+use lib.ListN.{length, set, length-set}
+use lib.Seq.{paste-zero}
 use Rattle.laws.proofs.Writing.{write_step, rest_step, paste_whole}
 use Rattle.fields.specs.Written.{little_bytes}
 use Rattle.fields.proofs.Laws.{little-cons, length-little}
-use borrow.Author.Rules.{rules}
 use Rattle.byte_runs.proofs.bytes.store.Goals as goal
 
 pub loop-j-init : goal.loop-j-init

@@ -5,7 +5,6 @@ use Prim.Native.Nat.{ℕ}
 use lib.ListN.{length}
 use Rattle.fields.specs.Number.{bytes_at}
 use Rattle.byte_runs.proofs.Stores.{byte_is}
-use borrow.Author.Rules.{rules}
 use Rattle.byte_runs.proofs.bytes.word_at.Goals as goal
 
 pub returns : goal.returns

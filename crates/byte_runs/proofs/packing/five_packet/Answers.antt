@@ -1,7 +1,6 @@
 -- `byte_runs::packing::five_packet`: the bytes of the two numbers are the codes. Assumes nothing.
 use mathlib.Core.Path.{◌∙◌}
 use Rattle.byte_runs.proofs.Fives.{six_codes, six_packet_lem}
-use borrow.Author.Rules.{rules}
 use Rattle.byte_runs.proofs.packing.five_packet.Goals as goal
 
 pub six_of-requires : goal.six_of-requires

@@ -1,7 +1,6 @@
 -- `byte_runs::packing::four_shifted`: every four codes were tried. Assumes nothing.
 use native.Mathlib.Omega.{arith}
 use Rattle.byte_runs.proofs.Twos.{pairs_low, pairs_high, bases-below, shifted_moved}
-use borrow.Author.Rules.{rules}
 use Rattle.byte_runs.proofs.packing.four_shifted.Goals as goal
 
 pub overflow_mul-pairs : goal.overflow_mul-pairs

@@ -1,13 +1,10 @@
 -- `byte_runs::packing::plain_block`: whether the codes so far are below 4. Assumes nothing.
 use mathlib.Core.Path.{◌≡◌, refl}
-use Prim.Native.Nat.{◌≤◌, ◌<◌, ◌-◌}
+use Prim.Native.Nat.{◌-◌}
 use native.Mathlib.Omega.{arith}
 use borrow.Author.Tests.{le-ltb, lt-ltb}
-use lib.Dec.{ltb}
 use lib.ListN.{length}
-use Rattle.packets.specs.Packing.{plain}
 use Rattle.byte_runs.proofs.Twos.{plain-none, plain_step}
-use borrow.Author.Rules.{rules}
 use Rattle.byte_runs.proofs.packing.plain_block.Goals as goal
 
 pub returns-then-codes-le240 : goal.returns-then-codes-le240

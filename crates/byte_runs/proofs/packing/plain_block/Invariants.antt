@@ -1,13 +1,9 @@
 -- `byte_runs::packing::plain_block`: whether the codes so far are below 4. Assumes nothing.
-use mathlib.Core.Path.{◌≡◌, refl}
+use mathlib.Core.Path.{◌≡◌}
 use Prim.Native.Nat.{◌≤◌, ◌<◌, ◌-◌}
-use native.Mathlib.Omega.{arith}
-use borrow.Author.Tests.{le-ltb, lt-ltb}
 use lib.Dec.{ltb}
 use lib.ListN.{length}
 use Rattle.packets.specs.Packing.{plain}
-use Rattle.byte_runs.proofs.Twos.{plain-none, plain_step}
-use borrow.Author.Rules.{rules}
 use Rattle.byte_runs.proofs.packing.plain_block.Given as goal
 
 abbrev pub invariant-loop-i : goal.invariant-loop-i

@@ -1,13 +1,10 @@
 -- `byte_runs::packing::put_sixteen`: the packets written so far. Assumes nothing.
-use mathlib.Core.Path.{◌≡◌, refl, ◌∙◌}
+use mathlib.Core.Path.{refl, ◌∙◌}
 use native.Mathlib.Omega.{arith}
-use Prim.Native.Nat.{◌≤◌, ◌-◌, ◌+◌}
-use lib.ListN.{length, take, drop}
-use Rattle.laws.specs.Writing.{written_at}
+use Prim.Native.Nat.{◌-◌, ◌+◌}
+use lib.ListN.{drop}
 use Rattle.laws.proofs.Writing.{drop-step}
-use Rattle.packets.specs.Bytes.{bytes_of}
 use Rattle.byte_runs.proofs.Packed.{put_none, put_more, put_all}
-use borrow.Author.Rules.{rules}
 use Rattle.byte_runs.proofs.packing.put_sixteen.Goals as goal
 
 pub loop-j-init : goal.loop-j-init

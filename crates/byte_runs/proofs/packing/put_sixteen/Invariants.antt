@@ -1,13 +1,9 @@
 -- `byte_runs::packing::put_sixteen`: the packets written so far. Assumes nothing.
-use mathlib.Core.Path.{◌≡◌, refl, ◌∙◌}
-use native.Mathlib.Omega.{arith}
-use Prim.Native.Nat.{◌≤◌, ◌-◌, ◌+◌}
-use lib.ListN.{length, take, drop}
+use mathlib.Core.Path.{◌≡◌}
+use Prim.Native.Nat.{◌≤◌, ◌-◌}
+use lib.ListN.{length, take}
 use Rattle.laws.specs.Writing.{written_at}
-use Rattle.laws.proofs.Writing.{drop-step}
 use Rattle.packets.specs.Bytes.{bytes_of}
-use Rattle.byte_runs.proofs.Packed.{put_none, put_more, put_all}
-use borrow.Author.Rules.{rules}
 use Rattle.byte_runs.proofs.packing.put_sixteen.Given as goal
 
 abbrev pub invariant-loop-j : goal.invariant-loop-j

@@ -1,6 +1,5 @@
 -- `byte_runs::packing::six_of`: each code at its place. Assumes nothing.
 use native.Mathlib.Omega.{arith}
-use borrow.Author.Rules.{rules}
 use Rattle.byte_runs.proofs.packing.six_of.Goals as goal
 
 pub overflow_add-result-6 : goal.overflow_add-result-6

@@ -1,13 +1,10 @@
 -- `byte_runs::packing::sixteen_fives`: the packets made so far. Assumes nothing.
 use mathlib.Core.Path.{◌≡◌, refl}
 use native.Mathlib.Omega.{arith}
-use Prim.Native.Nat.{◌≤◌, ◌-◌}
-use lib.ListN.{length, length-set}
-use Rattle.laws.specs.Writing.{written_at}
+use Prim.Native.Nat.{◌-◌}
+use lib.ListN.{length-set}
 use Rattle.packets.specs.Packing.{five_bit_part}
-use Rattle.byte_runs.specs.Packed.{fives}
 use Rattle.byte_runs.proofs.Packed.{parts_none, parts_more, parts_whole}
-use borrow.Author.Rules.{rules}
 use Rattle.byte_runs.proofs.packing.sixteen_fives.Goals as goal
 
 pub loop-i-init : goal.loop-i-init

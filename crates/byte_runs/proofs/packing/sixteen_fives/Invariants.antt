@@ -1,13 +1,9 @@
 -- `byte_runs::packing::sixteen_fives`: the packets made so far. Assumes nothing.
-use mathlib.Core.Path.{◌≡◌, refl}
-use native.Mathlib.Omega.{arith}
+use mathlib.Core.Path.{◌≡◌}
 use Prim.Native.Nat.{◌≤◌, ◌-◌}
-use lib.ListN.{length, length-set}
+use lib.ListN.{length}
 use Rattle.laws.specs.Writing.{written_at}
-use Rattle.packets.specs.Packing.{five_bit_part}
 use Rattle.byte_runs.specs.Packed.{fives}
-use Rattle.byte_runs.proofs.Packed.{parts_none, parts_more, parts_whole}
-use borrow.Author.Rules.{rules}
 use Rattle.byte_runs.proofs.packing.sixteen_fives.Given as goal
 
 abbrev pub invariant-loop-i : goal.invariant-loop-i

@@ -1,15 +1,12 @@
 -- `byte_runs::packing::sixteen_twos`: the packets made so far. Assumes nothing.
 use mathlib.Core.Path.{◌≡◌, refl}
 use native.Mathlib.Omega.{arith}
-use Prim.Native.Nat.{◌≤◌, ◌-◌, ◌*◌}
-use lib.ListN.{length, length-set}
-use Rattle.laws.specs.Writing.{written_at}
+use Prim.Native.Nat.{◌-◌, ◌*◌}
+use lib.ListN.{length-set}
 use Rattle.packets.specs.Packing.{two_bit_part}
 use Rattle.packets.proofs.Packing.{plain-long}
-use Rattle.byte_runs.specs.Packed.{twos}
 use Rattle.byte_runs.proofs.Packed.{parts_none, parts_more, parts_whole}
 use Rattle.byte_runs.proofs.Twos.{plain-inside}
-use borrow.Author.Rules.{rules}
 use Rattle.byte_runs.proofs.packing.sixteen_twos.Goals as goal
 
 pub loop-i-init : goal.loop-i-init

@@ -1,15 +1,9 @@
 -- `byte_runs::packing::sixteen_twos`: the packets made so far. Assumes nothing.
-use mathlib.Core.Path.{◌≡◌, refl}
-use native.Mathlib.Omega.{arith}
-use Prim.Native.Nat.{◌≤◌, ◌-◌, ◌*◌}
-use lib.ListN.{length, length-set}
+use mathlib.Core.Path.{◌≡◌}
+use Prim.Native.Nat.{◌≤◌, ◌-◌}
+use lib.ListN.{length}
 use Rattle.laws.specs.Writing.{written_at}
-use Rattle.packets.specs.Packing.{two_bit_part}
-use Rattle.packets.proofs.Packing.{plain-long}
 use Rattle.byte_runs.specs.Packed.{twos}
-use Rattle.byte_runs.proofs.Packed.{parts_none, parts_more, parts_whole}
-use Rattle.byte_runs.proofs.Twos.{plain-inside}
-use borrow.Author.Rules.{rules}
 use Rattle.byte_runs.proofs.packing.sixteen_twos.Given as goal
 
 abbrev pub invariant-loop-i : goal.invariant-loop-i

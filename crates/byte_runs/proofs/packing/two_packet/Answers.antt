@@ -3,7 +3,6 @@ use mathlib.Core.Path.{refl}
 use Prim.Native.Nat.{◌+◌}
 use native.Mathlib.Omega.{arith}
 use Rattle.byte_runs.proofs.Twos.{four_bases, two_sum}
-use borrow.Author.Rules.{rules}
 use Rattle.byte_runs.proofs.packing.two_packet.Goals as goal
 
 pub four_shifted-requires : goal.four_shifted-requires

@@ -4,7 +4,6 @@ use native.Mathlib.Omega.{arith}
 use Prim.Native.Nat.{ℕ, ◌-◌, ◌*◌}
 use Rattle.runs.proofs.Turns.{packet-is}
 use Rattle.byte_runs.proofs.Runs.{amino_count, amino_bytes}
-use borrow.Author.Rules.{rules}
 use Rattle.byte_runs.proofs.packing.write_amino_run.Goals as goal
 
 pub write_fives-requires : goal.write_fives-requires

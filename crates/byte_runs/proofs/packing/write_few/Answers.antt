@@ -1,15 +1,12 @@
 -- `byte_runs::packing::write_few`: the packets written so far. Assumes nothing.
-use mathlib.Core.Path.{◌≡◌, refl, sym, ap, ◌∙◌}
+use mathlib.Core.Path.{refl, sym, ap, ◌∙◌}
 use mathlib.Core.List.{[], ◌∷◌}
 use native.Mathlib.Omega.{arith}
-use Prim.Native.Nat.{ℕ, ◌≤◌, ◌-◌, ◌*◌}
-use lib.ListN.{length, take, drop}
-use Rattle.laws.specs.Writing.{written_at}
+use Prim.Native.Nat.{ℕ, ◌-◌, ◌*◌}
+use lib.ListN.{drop}
 use Rattle.packets.specs.Packing.{five_bit_part}
-use Rattle.packets.specs.Bytes.{bytes_of}
 use Rattle.byte_runs.specs.Packed.{fives}
 use Rattle.byte_runs.proofs.Packed.{put_none, parts_put, parts_one, put_all, length_parts}
-use borrow.Author.Rules.{rules}
 use Rattle.byte_runs.proofs.packing.write_few.Goals as goal
 
 pub loop-i-init : goal.loop-i-init

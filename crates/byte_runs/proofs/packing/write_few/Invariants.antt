@@ -1,15 +1,10 @@
 -- `byte_runs::packing::write_few`: the packets written so far. Assumes nothing.
-use mathlib.Core.Path.{◌≡◌, refl, sym, ap, ◌∙◌}
-use mathlib.Core.List.{[], ◌∷◌}
-use native.Mathlib.Omega.{arith}
-use Prim.Native.Nat.{ℕ, ◌≤◌, ◌-◌, ◌*◌}
-use lib.ListN.{length, take, drop}
+use mathlib.Core.Path.{◌≡◌}
+use Prim.Native.Nat.{◌≤◌, ◌-◌}
+use lib.ListN.{length, take}
 use Rattle.laws.specs.Writing.{written_at}
-use Rattle.packets.specs.Packing.{five_bit_part}
 use Rattle.packets.specs.Bytes.{bytes_of}
 use Rattle.byte_runs.specs.Packed.{fives}
-use Rattle.byte_runs.proofs.Packed.{put_none, parts_put, parts_one, put_all, length_parts}
-use borrow.Author.Rules.{rules}
 use Rattle.byte_runs.proofs.packing.write_few.Given as goal
 
 abbrev pub invariant-loop-i : goal.invariant-loop-i

@@ -1,15 +1,10 @@
 -- `byte_runs::packing::write_fives`: the packets written so far; a block writes behind them, or some of them again. Assumes nothing.
-use mathlib.Core.Path.{◌≡◌, refl, ap, ◌∙◌}
-use Prim.Native.Nat.{◌≤◌, ◌-◌, ◌+◌, ◌*◌}
-use native.Mathlib.Omega.{arith}
-use lib.ListN.{length, take, drop}
+use mathlib.Core.Path.{◌≡◌}
+use Prim.Native.Nat.{◌≤◌, ◌-◌}
+use lib.ListN.{length, take}
 use Rattle.laws.specs.Writing.{written_at}
-use Rattle.laws.proofs.Digits.{below-take, below-drop}
-use Rattle.packets.specs.Packing.{five_bit_part}
 use Rattle.packets.specs.Bytes.{bytes_of}
 use Rattle.byte_runs.specs.Packed.{fives}
-use Rattle.byte_runs.proofs.Packed.{put_none, put_length, part_long, parts_lent, block_less, put_all, length_parts}
-use borrow.Author.Rules.{rules}
 use Rattle.byte_runs.proofs.packing.write_fives.Given as goal
 
 abbrev pub invariant-loop-i : goal.invariant-loop-i

@@ -1,13 +1,7 @@
 -- `byte_runs::packing::write_inner`: the packets written so far, and the run of the codes still to read. Assumes nothing.
-use mathlib.Core.Path.{◌≡◌, sym, ◌∙◌}
-use Prim.Native.Nat.{◌≤◌, ◌<◌, ◌-◌, ◌+◌, ◌*◌, ◌/◌}
-use native.Mathlib.Omega.{arith}
+use Prim.Native.Nat.{◌≤◌, ◌-◌, ◌+◌, ◌*◌, ◌/◌}
 use lib.ListN.{length}
-use Rattle.residues.proofs.Alphabets.{valid-below}
 use Rattle.byte_runs.specs.Packed.{RunBegun}
-use Rattle.byte_runs.proofs.Packed.{part_long}
-use Rattle.byte_runs.proofs.RunBegun.{begun-none, begun-place, begun_two, begun_five, begun-room, begun_block}
-use borrow.Author.Rules.{rules}
 use Rattle.byte_runs.proofs.packing.write_inner.Given as goal
 
 abbrev pub invariant-loop-at : goal.invariant-loop-at

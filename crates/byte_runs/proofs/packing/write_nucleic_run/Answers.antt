@@ -1,7 +1,7 @@
 -- `byte_runs::packing::write_nucleic_run`: what is left, written behind what is written, is what was left before. Assumes nothing.
 use mathlib.Core.Path.{◌≡◌, refl, sym, ap, ◌∙◌}
 use mathlib.Core.List.{List, [], ◌∷◌}
-use Prim.Native.Nat.{ℕ, ◌≤◌, ◌-◌, ◌+◌, ◌*◌, ◌/◌}
+use Prim.Native.Nat.{ℕ, ◌-◌, ◌+◌, ◌*◌}
 use native.Mathlib.Omega.{arith}
 use lib.ListN.{length, drop, length-drop}
 use Rattle.laws.specs.Writing.{written_at}
@@ -10,7 +10,6 @@ use Rattle.packets.specs.Bytes.{bytes_of}
 use Rattle.packets.proofs.Packing.{size-some, run-some}
 use Rattle.runs.proofs.Turns.{size_is, packet-is, run_ends, run_goes}
 use Rattle.byte_runs.proofs.RunBegun.{begun-whole, begun-length, put_next, put_one_length}
-use borrow.Author.Rules.{rules}
 use Rattle.byte_runs.proofs.packing.write_nucleic_run.Goals as goal
 
 pub loop-at-init : goal.loop-at-init

@@ -1,16 +1,10 @@
 -- `byte_runs::packing::write_nucleic_run`: what is left, written behind what is written, is what was left before. Assumes nothing.
-use mathlib.Core.Path.{◌≡◌, refl, sym, ap, ◌∙◌}
-use mathlib.Core.List.{List, [], ◌∷◌}
-use Prim.Native.Nat.{ℕ, ◌≤◌, ◌-◌, ◌+◌, ◌*◌, ◌/◌}
-use native.Mathlib.Omega.{arith}
-use lib.ListN.{length, drop, length-drop}
+use mathlib.Core.Path.{◌≡◌}
+use Prim.Native.Nat.{◌≤◌, ◌-◌, ◌+◌, ◌*◌, ◌/◌}
+use lib.ListN.{length, drop}
 use Rattle.laws.specs.Writing.{written_at}
-use Rattle.packets.specs.Packing.{run, packet}
+use Rattle.packets.specs.Packing.{run}
 use Rattle.packets.specs.Bytes.{bytes_of}
-use Rattle.packets.proofs.Packing.{size-some, run-some}
-use Rattle.runs.proofs.Turns.{size_is, packet-is, run_ends, run_goes}
-use Rattle.byte_runs.proofs.RunBegun.{begun-whole, begun-length, put_next, put_one_length}
-use borrow.Author.Rules.{rules}
 use Rattle.byte_runs.proofs.packing.write_nucleic_run.Given as goal
 
 abbrev pub invariant-loop-at : goal.invariant-loop-at

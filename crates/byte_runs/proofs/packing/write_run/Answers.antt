@@ -5,7 +5,6 @@ use borrow.Author.Tests.{ne_eqb}
 use lib.ListN.{length}
 use Rattle.packets.specs.Packing.{run}
 use Rattle.byte_runs.proofs.RunBegun.{run-same, valid_same, placed_start, placed_room, placed}
-use borrow.Author.Rules.{rules}
 use Rattle.byte_runs.proofs.packing.write_run.Goals as goal
 
 pub slice_bounds-write_amino_run-start : goal.slice_bounds-write_amino_run-start

@@ -1,17 +1,13 @@
 -- `byte_runs::packing::write_twos`: the packets written so far, all of plain codes. Assumes nothing.
 use mathlib.Core.Path.{◌≡◌, refl, ap, ◌∙◌}
 use mathlib.Core.Bool.{true}
-use Prim.Native.Nat.{◌≤◌, ◌<◌, ◌-◌, ◌+◌, ◌*◌}
+use Prim.Native.Nat.{◌≤◌, ◌-◌, ◌+◌, ◌*◌}
 use native.Mathlib.Omega.{arith}
 use lib.ListN.{length}
-use Rattle.laws.specs.Writing.{written_at}
 use Rattle.laws.proofs.Parts.{part_rest}
 use Rattle.packets.specs.Packing.{two_bit_part}
-use Rattle.packets.specs.Bytes.{bytes_of}
-use Rattle.byte_runs.specs.Packed.{twos, plain_parts}
 use Rattle.byte_runs.proofs.Packed.{part_long, parts_length, parts_behind, length_parts, bytes-start}
 use Rattle.byte_runs.proofs.Twos.{block_told, parts_plain}
-use borrow.Author.Rules.{rules}
 use Rattle.byte_runs.proofs.packing.write_twos.Goals as goal
 
 pub loop-packets-init : goal.loop-packets-init

@@ -1,11 +1,8 @@
 -- `byte_runs::reading::five_bit_packets`: bit 30 of the packets so far, added up. Assumes nothing.
-use mathlib.Core.Path.{◌≡◌, refl, ◌∙◌}
+use mathlib.Core.Path.{◌≡◌}
 use Prim.Native.Nat.{◌≤◌, ◌-◌}
-use native.Mathlib.Omega.{arith}
 use Rattle.packets.specs.Bytes.{packets_by}
 use Rattle.packets.specs.Reading.{five_bit_to}
-use Rattle.packets.proofs.Reading.{codes-fives, five_more}
-use borrow.Author.Rules.{rules}
 use Rattle.byte_runs.proofs.reading.five_bit_packets.Given as goal
 
 abbrev pub invariant-loop-i : goal.invariant-loop-i

@@ -3,7 +3,6 @@ use mathlib.Core.Path.{sym}
 use native.Mathlib.Omega.{arith}
 use Rattle.packets.specs.Bytes.{packets_by}
 use Rattle.packets.proofs.Reading.{codes_amino, codes-fives}
-use borrow.Author.Rules.{rules}
 use Rattle.byte_runs.proofs.reading.inner_codes.Goals as goal
 
 pub returns-then-alphabet-eq3 : goal.returns-then-alphabet-eq3

@@ -4,7 +4,7 @@ use mathlib.Core.Bool.{true}
 use mathlib.Core.List.{List}
 use Prim.Native.Nat.{ℕ, ◌+◌, ◌-◌, ◌/◌}
 use native.Mathlib.Omega.{arith}
-use borrow.Author.Tests.{eq-eqb, ne_eqb, not-true, not-false}
+use borrow.Author.Tests.{eq-eqb, ne_eqb}
 use lib.ListN.{length}
 use Rattle.packets.specs.Bytes.{packets_by}
 use Rattle.packets.specs.Reading.{inner_to, run_length}
@@ -12,7 +12,6 @@ use Rattle.packets.proofs.Bytes.{length-packets}
 use Rattle.packets.proofs.Reading.{found_none, found_broken, found_open, found_most, found_run}
 use Rattle.byte_runs.specs.Bytes.{run_in}
 use Rattle.byte_runs.proofs.Answers.{read_fits, read-large}
-use borrow.Author.Rules.{rules}
 use Rattle.byte_runs.proofs.reading.read_run.Goals as goal
 
 -- the run decides, where the bytes are not too many

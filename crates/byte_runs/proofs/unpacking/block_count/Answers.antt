@@ -1,9 +1,8 @@
 -- `byte_runs::unpacking::block_count`: whole blocks of what is left of the packets. Assumes nothing.
-use mathlib.Core.Path.{◌≡◌, refl, sym, ap, ◌∙◌}
-use Prim.Native.Nat.{ℕ, ◌+◌, ◌*◌, ◌-◌, ◌/◌, ◌%◌, ◌≤◌, ◌<◌}
+use mathlib.Core.Path.{◌≡◌, sym, ◌∙◌}
+use Prim.Native.Nat.{◌-◌}
 use native.Mathlib.Omega.{arith}
 use Rattle.byte_runs.specs.Blocks.{spare}
-use borrow.Author.Rules.{rules}
 use Rattle.byte_runs.proofs.unpacking.block_count.Goals as goal
 
 pub returns-then-is_amino : goal.returns-then-is_amino

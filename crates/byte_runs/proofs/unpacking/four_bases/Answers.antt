@@ -1,10 +1,8 @@
 -- `byte_runs::unpacking::four_bases`: two pairs parted at once. Assumes nothing.
-use mathlib.Core.Path.{◌≡◌, refl, sym, ap, ◌∙◌}
-use Prim.Native.Nat.{ℕ, ◌+◌, ◌*◌, ◌-◌, ◌/◌, ◌%◌, ◌≤◌, ◌<◌}
+use Prim.Native.Nat.{◌+◌, ◌*◌, ◌-◌, ◌/◌, ◌%◌}
 use native.Mathlib.Omega.{arith}
 use lib.Bits.{and_le_r}
 use Rattle.byte_runs.proofs.Blocks.{four_bases}
-use borrow.Author.Rules.{rules}
 use Rattle.byte_runs.proofs.unpacking.four_bases.Goals as goal
 
 pub overflow_mul-result : goal.overflow_mul-result

@@ -1,6 +1,5 @@
 -- `byte_runs::unpacking::last_two`: two codes, each in its byte. Assumes nothing.
 use Rattle.byte_runs.proofs.Blocks.{last_two}
-use borrow.Author.Rules.{rules}
 use Rattle.byte_runs.proofs.unpacking.last_two.Goals as goal
 
 pub returns : goal.returns

@@ -1,17 +1,14 @@
 -- `byte_runs::unpacking::put_bases`: sixteen packets taken apart, and then written one behind another. Assumes nothing.
-use mathlib.Core.Path.{◌≡◌, refl, sym, ap, ◌∙◌}
-use Prim.Native.Nat.{ℕ, ◌+◌, ◌*◌, ◌-◌, ◌/◌, ◌%◌, ◌≤◌, ◌<◌}
+use mathlib.Core.Path.{◌≡◌, refl, ap, ◌∙◌}
+use Prim.Native.Nat.{◌+◌, ◌*◌, ◌-◌}
 use native.Mathlib.Omega.{arith}
-use lib.ListN.{length, get_or, length-set}
-use Rattle.laws.specs.Writing.{Begun}
+use lib.ListN.{length-set}
 use Rattle.packets.specs.Bytes.{packets_of}
-use Rattle.packets.specs.Decoded.{codes_from}
 use Rattle.packets.specs.Runs.{is_five_bit, codes_in}
 use Rattle.packets.proofs.Codes.{codes_two}
-use Rattle.byte_runs.specs.Blocks.{InFour, Fronts, bytes_of_four}
+use Rattle.byte_runs.specs.Blocks.{Fronts, bytes_of_four}
 use Rattle.packets.proofs.Behind.{begun-start}
 use Rattle.byte_runs.proofs.Blocks.{two_front, four_more, begun_more, twos-count}
-use borrow.Author.Rules.{rules}
 use Rattle.byte_runs.proofs.unpacking.put_bases.Goals as goal
 
 pub loop-i-init : goal.loop-i-init

@@ -1,10 +1,8 @@
 -- `byte_runs::unpacking::put_block`: sixteen packets of one kind, or of both. Assumes nothing.
-use mathlib.Core.Path.{◌≡◌, refl, sym, ap, ◌∙◌}
-use Prim.Native.Nat.{ℕ, ◌+◌, ◌*◌, ◌-◌, ◌/◌, ◌%◌, ◌≤◌, ◌<◌}
+use mathlib.Core.Path.{◌≡◌, refl, sym, ◌∙◌}
+use Prim.Native.Nat.{◌+◌, ◌-◌}
 use native.Mathlib.Omega.{arith}
 use mathlib.Core.Bool.{true, false}
-use lib.ListN.{length}
-use Rattle.laws.specs.Writing.{Begun}
 use Rattle.residues.specs.Alphabets.{is_amino}
 use Rattle.packets.specs.Bytes.{packets_of}
 use Rattle.packets.specs.Decoded.{codes_from}
@@ -12,7 +10,6 @@ use Rattle.laws.proofs.Begun.{begun_written, begun_wider}
 use Rattle.packets.proofs.Behind.{no_fives}
 use Rattle.byte_runs.specs.Blocks.{margin}
 use Rattle.byte_runs.proofs.Blocks.{fives-count, twos-count, front-is}
-use borrow.Author.Rules.{rules}
 use Rattle.byte_runs.proofs.unpacking.put_block.Goals as goal
 
 pub put_sixes-requires : goal.put_sixes-requires

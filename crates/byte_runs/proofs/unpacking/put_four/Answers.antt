@@ -1,12 +1,10 @@
 -- `byte_runs::unpacking::put_four`: four numbers, one behind another. Assumes nothing.
-use mathlib.Core.Path.{◌≡◌, refl, sym, ap, ◌∙◌}
-use Prim.Native.Nat.{ℕ, ◌+◌, ◌*◌, ◌-◌, ◌/◌, ◌%◌, ◌≤◌, ◌<◌}
-use native.Mathlib.Omega.{arith}
+use mathlib.Core.Path.{refl, ap, ◌∙◌}
+use Prim.Native.Nat.{ℕ, ◌+◌, ◌-◌}
 use mathlib.Core.List.{List}
 use Rattle.laws.specs.Writing.{written_at}
 use Rattle.fields.specs.Written.{little_bytes}
 use Rattle.byte_runs.proofs.Blocks.{fours_put}
-use borrow.Author.Rules.{rules}
 use Rattle.byte_runs.proofs.unpacking.put_four.Goals as goal
 
 pub returns : goal.returns

@@ -1,17 +1,11 @@
 -- `byte_runs::unpacking::put_mixed`: sixteen packets taken apart in both ways, and then written one behind another. Assumes nothing.
-use mathlib.Core.Path.{◌≡◌, refl, sym, ap, ◌∙◌}
-use Prim.Native.Nat.{ℕ, ◌+◌, ◌*◌, ◌-◌, ◌/◌, ◌%◌, ◌≤◌, ◌<◌}
-use native.Mathlib.Omega.{arith}
-use lib.ListN.{length, get_or, length-set}
+use mathlib.Core.Path.{◌≡◌}
+use Prim.Native.Nat.{◌+◌, ◌-◌, ◌≤◌}
+use lib.ListN.{length}
 use Rattle.laws.specs.Writing.{Begun}
 use Rattle.packets.specs.Bytes.{packets_of}
 use Rattle.packets.specs.Decoded.{codes_from}
-use Rattle.packets.specs.Runs.{codes_in}
-use Rattle.packets.proofs.Codes.{codes-count}
-use Rattle.byte_runs.specs.Blocks.{InFour, Fronts, bytes_of_four}
-use Rattle.packets.proofs.Behind.{begun-start, none_yet}
-use Rattle.byte_runs.proofs.Blocks.{mixed_front, four_more, begun_more, codes-within, count_next}
-use borrow.Author.Rules.{rules}
+use Rattle.byte_runs.specs.Blocks.{InFour}
 use Rattle.byte_runs.proofs.unpacking.put_mixed.Given as goal
 
 abbrev pub invariant-loop-i : goal.invariant-loop-i

@@ -1,6 +1,6 @@
 -- `byte_runs::unpacking::put_one`: six codes by two numbers, fifteen by the decoder of one packet. Assumes nothing.
 use mathlib.Core.Path.{◌≡◌, refl, sym, ap, ◌∙◌}
-use Prim.Native.Nat.{ℕ, ◌+◌, ◌*◌, ◌-◌, ◌/◌, ◌%◌, ◌≤◌, ◌<◌}
+use Prim.Native.Nat.{ℕ, ◌-◌}
 use native.Mathlib.Omega.{arith}
 use mathlib.Core.List.{List}
 use lib.ListN.{length}
@@ -8,7 +8,6 @@ use Rattle.laws.specs.Writing.{written_at}
 use Rattle.packets.specs.Runs.{codes_in}
 use Rattle.packets.proofs.Codes.{codes_five, codes_put_lem}
 use Rattle.byte_runs.proofs.Blocks.{six_parts, six_codes}
-use borrow.Author.Rules.{rules}
 use Rattle.byte_runs.proofs.unpacking.put_one.Goals as goal
 
 pub put_six-requires : goal.put_six-requires

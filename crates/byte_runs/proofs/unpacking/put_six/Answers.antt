@@ -6,7 +6,6 @@ use native.Mathlib.Omega.{arith}
 use Rattle.laws.specs.Writing.{written_at}
 use Rattle.laws.proofs.Writing.{written_twice}
 use Rattle.fields.specs.Written.{little_bytes}
-use borrow.Author.Rules.{rules}
 use Rattle.byte_runs.proofs.unpacking.put_six.Goals as goal
 
 pub returns : goal.returns

@@ -1,18 +1,15 @@
 -- `byte_runs::unpacking::put_sixes`: sixteen packets taken apart, and then written one behind another. Assumes nothing.
 use mathlib.Core.Path.{◌≡◌, refl, sym, ap, ◌∙◌}
-use Prim.Native.Nat.{◌+◌, ◌*◌, ◌-◌, ◌≤◌, ◌<◌}
+use Prim.Native.Nat.{◌+◌, ◌*◌, ◌-◌}
 use native.Mathlib.Omega.{arith}
-use lib.ListN.{length, get_or, length-set}
-use Rattle.laws.specs.Writing.{Begun}
+use lib.ListN.{length-set}
 use Rattle.packets.specs.Bytes.{packets_of}
 use Rattle.packets.specs.Decoded.{codes_from}
 use Rattle.packets.specs.Runs.{is_five_bit}
 use Rattle.laws.proofs.Begun.{begun-whole}
 use Rattle.packets.proofs.Codes.{codes_five}
-use Rattle.byte_runs.specs.Blocks.{InTwo}
 use Rattle.packets.proofs.Behind.{begun-start}
 use Rattle.byte_runs.proofs.Blocks.{six_parts, two_more, begun_more, front-is, fives-count}
-use borrow.Author.Rules.{rules}
 use Rattle.byte_runs.proofs.unpacking.put_sixes.Goals as goal
 
 pub loop-i-init : goal.loop-i-init

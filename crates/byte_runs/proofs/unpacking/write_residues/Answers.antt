@@ -1,16 +1,13 @@
 -- `byte_runs::unpacking::write_residues`: blocks of packets, and behind their codes the residues of the rest. Assumes nothing.
-use mathlib.Core.Path.{◌≡◌, refl, sym, ap, ◌∙◌}
-use Prim.Native.Nat.{ℕ, ◌+◌, ◌*◌, ◌-◌, ◌/◌, ◌≤◌, ◌<◌}
+use mathlib.Core.Path.{◌∙◌}
+use Prim.Native.Nat.{◌*◌, ◌-◌, ◌<◌}
 use native.Mathlib.Omega.{arith}
-use lib.ListN.{length, drop}
+use lib.ListN.{length}
 use Rattle.fields.specs.Number.{little}
-use Rattle.packets.specs.Runs.{unpacked}
 use Rattle.packets.specs.Bytes.{packets_of}
-use Rattle.packets.specs.Decoded.{codes_from}
 use Rattle.packets.proofs.Bytes.{length-packets}
 use Rattle.packets.proofs.Behind.{first_count, written_split}
 use Rattle.packets.proofs.Shapes.{well_some}
-use borrow.Author.Rules.{rules}
 use Rattle.byte_runs.proofs.unpacking.write_residues.Goals as goal
 
 pub overflow_sub-bytes : goal.overflow_sub-bytes

@@ -1,17 +1,14 @@
 -- `byte_runs::unpacking::write_rest`: the codes written so far, and the residues of the last packet. Assumes nothing.
-use mathlib.Core.Path.{◌≡◌, refl, sym, ap, ◌∙◌}
-use Prim.Native.Nat.{ℕ, ◌+◌, ◌*◌, ◌-◌, ◌/◌, ◌%◌, ◌≤◌, ◌<◌}
+use mathlib.Core.Path.{◌≡◌, refl, ◌∙◌}
+use Prim.Native.Nat.{◌+◌, ◌-◌, ◌<◌}
 use native.Mathlib.Omega.{arith}
-use lib.ListN.{length, drop, get_or}
-use Rattle.laws.specs.Writing.{written_at, Begun}
+use lib.ListN.{length, drop}
 use Rattle.fields.specs.Number.{little}
-use Rattle.packets.specs.Runs.{codes_in, residues, unpacked}
+use Rattle.packets.specs.Runs.{residues, unpacked}
 use Rattle.packets.specs.Bytes.{packets_of}
-use Rattle.packets.specs.Decoded.{codes_from}
 use Rattle.packets.proofs.Bytes.{length-packets}
 use Rattle.packets.proofs.Behind.{begun-start, none_yet, behind-room, behind_more, behind-count, last-room, behind-last}
 use Rattle.packets.proofs.Codes.{residues_put_lem}
-use borrow.Author.Rules.{rules}
 use Rattle.byte_runs.proofs.unpacking.write_rest.Goals as goal
 
 pub loop-done-init : goal.loop-done-init

@@ -1,17 +1,11 @@
 -- `byte_runs::unpacking::write_rest`: the codes written so far, and the residues of the last packet. Assumes nothing.
-use mathlib.Core.Path.{◌≡◌, refl, sym, ap, ◌∙◌}
-use Prim.Native.Nat.{ℕ, ◌+◌, ◌*◌, ◌-◌, ◌/◌, ◌%◌, ◌≤◌, ◌<◌}
-use native.Mathlib.Omega.{arith}
-use lib.ListN.{length, drop, get_or}
-use Rattle.laws.specs.Writing.{written_at, Begun}
-use Rattle.fields.specs.Number.{little}
-use Rattle.packets.specs.Runs.{codes_in, residues, unpacked}
+use mathlib.Core.Path.{◌≡◌}
+use Prim.Native.Nat.{◌+◌, ◌-◌, ◌/◌, ◌<◌}
+use lib.ListN.{length, drop}
+use Rattle.laws.specs.Writing.{Begun}
+use Rattle.packets.specs.Runs.{unpacked}
 use Rattle.packets.specs.Bytes.{packets_of}
 use Rattle.packets.specs.Decoded.{codes_from}
-use Rattle.packets.proofs.Bytes.{length-packets}
-use Rattle.packets.proofs.Behind.{begun-start, none_yet, behind-room, behind_more, behind-count, last-room, behind-last}
-use Rattle.packets.proofs.Codes.{residues_put_lem}
-use borrow.Author.Rules.{rules}
 use Rattle.byte_runs.proofs.unpacking.write_rest.Given as goal
 
 abbrev pub invariant-loop-done : goal.invariant-loop-done

@@ -2,7 +2,6 @@
 use mathlib.Core.Path.{sym, ◌∙◌}
 use native.Mathlib.Omega.{arith}
 use Rattle.console.proofs.Values.{put_room, put_none}
-use borrow.Author.Rules.{rules}
 use Rattle.console.proofs.results.put_results.Goals as goal
 
 pub returns-then-results-values : goal.returns-then-results-values

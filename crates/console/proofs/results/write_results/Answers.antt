@@ -1,14 +1,12 @@
 -- `console::results::write_results`: the values passed so far stand at the range's start. Assumes nothing.
-use mathlib.Core.Path.{◌≡◌, refl, ap, ◌∙◌}
-use Prim.Native.Nat.{◌≤◌, ◌-◌}
+use mathlib.Core.Path.{refl, ap, ◌∙◌}
+use Prim.Native.Nat.{◌-◌}
 use native.Mathlib.Omega.{arith}
-use lib.ListN.{length, take}
+use lib.ListN.{length}
 use Rattle.laws.specs.Writing.{written_at}
 use Rattle.fields.specs.Number.{little}
 use Rattle.fields.proofs.Laws.{length_put}
-use Rattle.console.specs.Results.{result_bytes}
 use Rattle.console.proofs.Values.{results_next, results_all}
-use borrow.Author.Rules.{rules}
 use Rattle.console.proofs.results.write_results.Goals as goal
 
 pub loop-k-init : goal.loop-k-init

@@ -1,7 +1,6 @@
 -- `deflines::values::database_tag_at`: field by field; the tag stands within the file. Assumes nothing.
 use Rattle.deflines.specs.Identifiers.{database_tag_at}
 use Rattle.deflines.proofs.Identifiers.{held_room}
-use borrow.Author.Rules.{rules}
 use Rattle.deflines.proofs.values.database_tag_at.Goals as goal
 
 pub object_id_at-tag-requires : goal.object_id_at-tag-requires

@@ -1,11 +1,8 @@
 -- `deflines::values::field_in`: each turn passes one field. What is left of the record gives the answer. Assumes nothing.
 use Prim.Native.Nat.{◌-◌}
-use mathlib.Core.Path.{refl, sym, ◌∙◌}
 use lib.ListN.{length}
 use Rattle.deflines.specs.Identifiers.{with_tag, field_in}
-use Rattle.deflines.proofs.Walks.{places, Rest, Turn, rest_none, turn_less, turn_here, turn_past}
-use Rattle.deflines.proofs.Identifiers.{tag_here, tag-other}
-use borrow.Author.Rules.{rules}
+use Rattle.deflines.proofs.Walks.{places, Rest}
 use Rattle.deflines.proofs.values.field_in.Given as goal
 
 abbrev pub invariant-loop-end : goal.invariant-loop-end

@@ -1,7 +1,6 @@
 -- `deflines::values::held_in`: what stands behind a field that is found; a field has two bytes in the file. Assumes nothing.
 use native.Mathlib.Omega.{arith}
 use Rattle.deflines.proofs.Identifiers.{field_room}
-use borrow.Author.Rules.{rules}
 use Rattle.deflines.proofs.values.held_in.Goals as goal
 
 pub overflow_add-result : goal.overflow_add-result

@@ -3,7 +3,6 @@ use borrow.Author.Tests.{ne_eqb}
 use mir.Syntax.{w64}
 use mir.ValLaws.{to_z-of_z}
 use Rattle.deflines.specs.Identifiers.{identifier_at}
-use borrow.Author.Rules.{rules}
 use Rattle.deflines.proofs.values.identifier_at.Goals as goal
 
 pub returns-in-160 : goal.returns-in-160

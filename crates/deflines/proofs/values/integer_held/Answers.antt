@@ -3,7 +3,6 @@ use mathlib.Core.Path.{sym, ap, ◌∙◌}
 use Rattle.deflines.specs.Identifiers.{integer_or}
 use mir.Syntax.{w64}
 use mir.ValLaws.{to_z-of_z}
-use borrow.Author.Rules.{rules}
 use Rattle.deflines.proofs.values.integer_held.Goals as goal
 
 pub returns-in-Integer : goal.returns-in-Integer

@@ -4,7 +4,6 @@ use mir.ValLaws.{to_z-of_z}
 use mathlib.Core.Path.{sym, ◌∙◌}
 use borrow.Author.Tests.{eq-eqb, ne_eqb}
 use Rattle.deflines.specs.Identifiers.{object_id_at}
-use borrow.Author.Rules.{rules}
 use Rattle.deflines.proofs.values.object_id_at.Goals as goal
 
 pub returns-then-byte : goal.returns-then-byte

@@ -3,7 +3,6 @@ use mir.Syntax.{w64}
 use mir.ValLaws.{to_z-of_z}
 use native.Mathlib.Omega.{arith}
 use Rattle.deflines.proofs.Identifiers.{field_room}
-use borrow.Author.Rules.{rules}
 use Rattle.deflines.proofs.values.optional_integer.Goals as goal
 
 pub overflow_add-p : goal.overflow_add-p

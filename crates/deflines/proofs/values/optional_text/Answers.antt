@@ -1,7 +1,6 @@
 -- `deflines::values::optional_text`: a field that is found holds it; a field has two bytes in the file. Assumes nothing.
 use native.Mathlib.Omega.{arith}
 use Rattle.deflines.proofs.Identifiers.{field_room}
-use borrow.Author.Rules.{rules}
 use Rattle.deflines.proofs.values.optional_text.Goals as goal
 
 pub overflow_add-p : goal.overflow_add-p

@@ -6,7 +6,6 @@ use mir.Syntax.{w64}
 use mir.ValLaws.{to_z-of_z}
 use Rattle.deflines.specs.Identifiers.{patent_at}
 use Rattle.deflines.proofs.Identifiers.{held_room}
-use borrow.Author.Rules.{rules}
 use Rattle.deflines.proofs.values.patent_at.Goals as goal
 
 -- the citation stands within the file

@@ -2,7 +2,6 @@
 use mathlib.Core.Path.{sym, ◌∙◌}
 use borrow.Author.Tests.{eq-eqb, ne_eqb}
 use Rattle.deflines.specs.Identifiers.{patent_number_at}
-use borrow.Author.Rules.{rules}
 use Rattle.deflines.proofs.values.patent_number_at.Goals as goal
 
 pub returns-then-byte : goal.returns-then-byte

@@ -2,7 +2,6 @@
 use mir.Syntax.{w64}
 use mir.ValLaws.{to_z-of_z}
 use Rattle.deflines.specs.Identifiers.{structure_at}
-use borrow.Author.Rules.{rules}
 use Rattle.deflines.proofs.values.structure_at.Goals as goal
 
 pub returns : goal.returns

@@ -1,7 +1,6 @@
 -- `deflines::values::text_held`: what is read decides. Assumes nothing.
 use mathlib.Core.Path.{sym, ap, ◌∙◌}
 use Rattle.deflines.specs.Identifiers.{text_or}
-use borrow.Author.Rules.{rules}
 use Rattle.deflines.proofs.values.text_held.Goals as goal
 
 pub returns-in-Part : goal.returns-in-Part

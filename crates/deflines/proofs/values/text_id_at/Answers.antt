@@ -1,6 +1,5 @@
 -- `deflines::values::text_id_at`: field by field. Assumes nothing.
 use Rattle.deflines.specs.Identifiers.{text_id_at}
-use borrow.Author.Rules.{rules}
 use Rattle.deflines.proofs.values.text_id_at.Goals as goal
 
 pub returns : goal.returns

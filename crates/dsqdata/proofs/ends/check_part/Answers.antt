@@ -1,7 +1,5 @@
 -- `dsqdata::ends::check_part`: the tests are the rules of the two ends. Assumes nothing.
-use borrow.Author.Tests.{not-true, not-false}
 use Rattle.dsqdata.proofs.Parts.{part_low, part_falls, part_high, part_passed}
-use borrow.Author.Rules.{rules}
 use Rattle.dsqdata.proofs.ends.check_part.Goals as goal
 
 pub returns-then-before-ltminus1 : goal.returns-then-before-ltminus1

@@ -3,7 +3,6 @@ use mathlib.Core.Path.{sym, ◌∙◌}
 use mir.Syntax.{w64}
 use Rattle.laws.proofs.Signed.{again}
 use Rattle.dsqdata.proofs.Rising.{end_zero, end_not_first}
-use borrow.Author.Rules.{rules}
 use Rattle.dsqdata.proofs.ends.end_before.Goals as goal
 
 pub returns-then-k-eq0 : goal.returns-then-k-eq0

@@ -3,7 +3,6 @@ use mathlib.Core.Path.{sym, ◌∙◌}
 use mir.Syntax.{w64}
 use Rattle.laws.proofs.Signed.{again}
 use Rattle.dsqdata.proofs.Rising.{end_suc}
-use borrow.Author.Rules.{rules}
 use Rattle.dsqdata.proofs.ends.end_of.Goals as goal
 
 pub returns : goal.returns

@@ -1,6 +1,5 @@
 -- `dsqdata::ends::metadata_start`: the byte after the end before. Assumes nothing.
 use Rattle.dsqdata.proofs.Signs.{after_again}
-use borrow.Author.Rules.{rules}
 use Rattle.dsqdata.proofs.ends.metadata_start.Goals as goal
 
 pub returns : goal.returns

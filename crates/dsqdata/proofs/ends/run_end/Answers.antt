@@ -1,6 +1,5 @@
 -- `dsqdata::ends::run_end`: the packet after its own end. Assumes nothing.
 use Rattle.dsqdata.proofs.Signs.{after_again}
-use borrow.Author.Rules.{rules}
 use Rattle.dsqdata.proofs.ends.run_end.Goals as goal
 
 pub returns : goal.returns

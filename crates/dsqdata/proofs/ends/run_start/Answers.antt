@@ -1,6 +1,5 @@
 -- `dsqdata::ends::run_start`: the packet after the end before. Assumes nothing.
 use Rattle.dsqdata.proofs.Signs.{after_again}
-use borrow.Author.Rules.{rules}
 use Rattle.dsqdata.proofs.ends.run_start.Goals as goal
 
 pub returns : goal.returns

@@ -1,7 +1,6 @@
 -- `dsqdata::header::check_count`: the tests are the rules, one by one. Assumes nothing.
 use borrow.Author.Tests.{le-leb, lt-leb}
 use Rattle.dsqdata.specs.Check.{count_rules}
-use borrow.Author.Rules.{rules}
 use Rattle.dsqdata.proofs.header.check_count.Goals as goal
 
 pub returns-then-count-gt-MOST_SEQUENCES : goal.returns-then-count-gt-MOST_SEQUENCES

@@ -1,6 +1,5 @@
 -- `dsqdata::header::check_files`: each part answers for its rules, and the first that refuses decides. Assumes nothing.
 use Rattle.dsqdata.proofs.Parted.{sizes_stopped, index_stopped, metadata_stopped, sequence_stopped, files_passed}
-use borrow.Author.Rules.{rules}
 use Rattle.dsqdata.proofs.header.check_files.Goals as goal
 
 pub returns-in-Refused : goal.returns-in-Refused

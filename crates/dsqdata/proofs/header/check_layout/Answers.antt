@@ -1,7 +1,5 @@
 -- `dsqdata::header::check_layout`: each test and each part answers for its rules, and the first that refuses decides. Assumes nothing.
-use borrow.Author.Tests.{not-true, not-false}
 use Rattle.dsqdata.proofs.Parted.{alphabet-stopped, flags-stopped, count-stopped, body-stopped, layout_passed}
-use borrow.Author.Rules.{rules}
 use Rattle.dsqdata.proofs.header.check_layout.Goals as goal
 
 pub returns-then-not-is_alphabet : goal.returns-then-not-is_alphabet

@@ -3,7 +3,6 @@ use mathlib.Core.Path.{refl}
 use borrow.Author.Tests.{le-leb, lt-leb}
 use Rattle.dsqdata.specs.Check.{start_rules}
 use Rattle.dsqdata.proofs.Fields.{fields-same, fields_differ}
-use borrow.Author.Rules.{rules}
 use Rattle.dsqdata.proofs.header.check_start.Goals as goal
 
 pub returns-then-file-least : goal.returns-then-file-least

@@ -1,7 +1,6 @@
 -- `dsqdata::header::check_tags`: the tests are the rules, one by one. Assumes nothing.
 use Rattle.dsqdata.specs.Check.{tag_rules}
 use Rattle.dsqdata.proofs.Fields.{fields-same, fields_differ}
-use borrow.Author.Rules.{rules}
 use Rattle.dsqdata.proofs.header.check_tags.Goals as goal
 
 pub returns-then-u32_at-tag : goal.returns-then-u32_at-tag

@@ -2,7 +2,6 @@
 use mathlib.Core.Path.{sym, ◌∙◌}
 use borrow.Author.Tests.{eq-eqb, ne_eqb}
 use Rattle.dsqdata.specs.Header.{set_order}
-use borrow.Author.Rules.{rules}
 use Rattle.dsqdata.proofs.header.order_of.Goals as goal
 
 pub returns-then-be_u32-eq-MAGIC : goal.returns-then-be_u32-eq-MAGIC

@@ -1,6 +1,5 @@
 -- `dsqdata::header::read_record`: field by field. Assumes nothing.
 use Rattle.dsqdata.proofs.Fields.{record-read}
-use borrow.Author.Rules.{rules}
 use Rattle.dsqdata.proofs.header.read_record.Goals as goal
 
 pub returns : goal.returns

@@ -1,21 +1,18 @@
 -- `dsqdata::records::check_records`: the records passed keep their rules, and the lengths of their texts are compared. Assumes nothing.
 use mathlib.Core.Path.{◌≡◌, refl, sym, ap, ◌∙◌}
-use Prim.Native.Nat.{◌+◌, ◌-◌, ◌≤◌}
+use Prim.Native.Nat.{◌+◌, ◌-◌}
 use native.Mathlib.Omega.{arith}
 use lib.IntN.{ℤ}
-use Rattle.laws.specs.Places.{largest_to}
-use Rattle.laws.specs.Rules.{AllHold}
 use Rattle.laws.proofs.Places.{largest-more}
 use Rattle.packets.specs.Ends.{after}
 use Rattle.metadata.specs.declared.Texts.TheVariants.{Lengths}
-use Rattle.dsqdata.specs.Ends.{metadata_table, metadata_start}
+use Rattle.dsqdata.specs.Ends.{metadata_table}
 use Rattle.dsqdata.specs.Records.{texts_at, name_at, accession_at, description_at}
-use Rattle.dsqdata.specs.Check.{rules_to, rules_of_record}
+use Rattle.dsqdata.specs.Check.{rules_of_record}
 use Rattle.dsqdata.proofs.EachRule.{rules_more}
 use Rattle.dsqdata.proofs.Rising.{end_zero}
 use Rattle.dsqdata.proofs.Texts.{record-next, record-read, texts_name, texts_accession, texts_description, record-holds}
 use Rattle.dsqdata.proofs.Longest.{records-bad, records-done}
-use borrow.Author.Rules.{rules}
 use Rattle.dsqdata.proofs.records.check_records.Goals as goal
 
 pub loop-k-init : goal.loop-k-init

@@ -1,6 +1,5 @@
 -- `dsqdata::records::check_rest`: the records answer for their rules, and then the totals for theirs. Assumes nothing.
 use Rattle.dsqdata.proofs.Parted.{few_of, records-stopped, records_passed}
-use borrow.Author.Rules.{rules}
 use Rattle.dsqdata.proofs.records.check_rest.Goals as goal
 
 pub check_records-records-requires : goal.check_records-records-requires

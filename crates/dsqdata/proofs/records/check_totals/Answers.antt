@@ -1,7 +1,6 @@
 -- `dsqdata::records::check_totals`: the tests are the rules, one by one. Assumes nothing.
 use Rattle.dsqdata.proofs.Totals.{residues_wrong, sequence_wrong, name_wrong, accession_wrong, description_wrong, totals_right}
 use native.Mathlib.Omega.{arith}
-use borrow.Author.Rules.{rules}
 use Rattle.dsqdata.proofs.records.check_totals.Goals as goal
 
 pub returns-then-residues-set : goal.returns-then-residues-set

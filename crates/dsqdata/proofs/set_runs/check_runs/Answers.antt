@@ -1,10 +1,9 @@
 -- `dsqdata::set_runs::check_runs`: the runs passed keep their rules, and their residues are added up and compared. Assumes nothing.
 use mathlib.Core.Path.{◌≡◌, refl, sym, ap, ◌∙◌}
-use Prim.Native.Nat.{ℕ, suc, ◌+◌, ◌*◌, ◌-◌, ◌≤◌}
+use Prim.Native.Nat.{ℕ, suc, ◌+◌, ◌-◌}
 use native.Mathlib.Omega.{arith}
 use native.Mathlib.Numerals.{add-one}
 use Rattle.laws.specs.Places.{sum_to, largest_to}
-use Rattle.laws.specs.Rules.{AllHold}
 use Rattle.laws.proofs.Places.{sum_more, largest-more}
 use Rattle.laws.proofs.Rules.{verdict-passes}
 use Rattle.packets.specs.Ends.{after}
@@ -16,7 +15,6 @@ use Rattle.dsqdata.specs.Scans.{runs_to}
 use Rattle.dsqdata.proofs.EachRule.{rules_more, rules_done, rules_refused}
 use Rattle.dsqdata.proofs.Rising.{end_zero, after-rises, ends_rule, ends-within, residues-most}
 use Rattle.dsqdata.proofs.Wholes.{RunPassed, run-bad, run-good}
-use borrow.Author.Rules.{rules}
 use Rattle.dsqdata.proofs.set_runs.check_runs.Goals as goal
 
 -- the run of this turn passed

@@ -1,22 +1,11 @@
 -- `dsqdata::set_runs::check_runs`: the runs passed keep their rules, and their residues are added up and compared. Assumes nothing.
-use mathlib.Core.Path.{◌≡◌, refl, sym, ap, ◌∙◌}
-use Prim.Native.Nat.{ℕ, suc, ◌+◌, ◌*◌, ◌-◌, ◌≤◌}
-use native.Mathlib.Omega.{arith}
-use native.Mathlib.Numerals.{add-one}
+use mathlib.Core.Path.{◌≡◌}
+use Prim.Native.Nat.{◌*◌, ◌-◌, ◌≤◌}
 use Rattle.laws.specs.Places.{sum_to, largest_to}
 use Rattle.laws.specs.Rules.{AllHold}
-use Rattle.laws.proofs.Places.{sum_more, largest-more}
-use Rattle.laws.proofs.Rules.{verdict-passes}
 use Rattle.packets.specs.Ends.{after}
-use Rattle.dsqdata.specs.declared.set_runs.Runs.TheVariants.{Totals, Refused}
-use Rattle.dsqdata.specs.Header.{packets_in}
-use Rattle.dsqdata.specs.Ends.{packet_table, end_before, run_at, residues_at}
-use Rattle.dsqdata.specs.Check.{rules_of_run, run_rules_to}
-use Rattle.dsqdata.specs.Scans.{runs_to}
-use Rattle.dsqdata.proofs.EachRule.{rules_more, rules_done, rules_refused}
-use Rattle.dsqdata.proofs.Rising.{end_zero, after-rises, ends_rule, ends-within, residues-most}
-use Rattle.dsqdata.proofs.Wholes.{RunPassed, run-bad, run-good}
-use borrow.Author.Rules.{rules}
+use Rattle.dsqdata.specs.Ends.{packet_table, end_before, residues_at}
+use Rattle.dsqdata.specs.Check.{run_rules_to}
 use Rattle.dsqdata.proofs.set_runs.check_runs.Given as goal
 
 abbrev pub invariant-loop-k : goal.invariant-loop-k

@@ -1,6 +1,5 @@
 -- `dsqdata::set_runs::read_run`: the bytes of the run's packets, read. Assumes nothing.
 use Rattle.dsqdata.proofs.FileBodies.{run_found}
-use borrow.Author.Rules.{rules}
 use Rattle.dsqdata.proofs.set_runs.read_run.Goals as goal
 
 pub returns : goal.returns

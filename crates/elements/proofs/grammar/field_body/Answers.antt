@@ -1,5 +1,4 @@
 -- `elements::grammar::field_body`: each arm knows the record, and the tags are the tests of the definition. Assumes nothing.
-use borrow.Author.Rules.{rules}
 use Rattle.elements.proofs.grammar.field_body.Goals as goal
 
 pub returns-in-DefLine : goal.returns-in-DefLine

@@ -1,5 +1,4 @@
 -- `elements::grammar::form_inside`: each arm knows the form, and the definition computes there. Assumes nothing.
-use borrow.Author.Rules.{rules}
 use Rattle.elements.proofs.grammar.form_inside.Goals as goal
 
 pub returns-in-Any : goal.returns-in-Any

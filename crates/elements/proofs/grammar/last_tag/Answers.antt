@@ -1,5 +1,4 @@
 -- `elements::grammar::last_tag`: each arm knows the record, and the definition computes there. Assumes nothing.
-use borrow.Author.Rules.{rules}
 use Rattle.elements.proofs.grammar.last_tag.Goals as goal
 
 pub returns-in-DefLine : goal.returns-in-DefLine

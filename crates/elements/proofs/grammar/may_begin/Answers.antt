@@ -1,5 +1,4 @@
 -- `elements::grammar::may_begin`: each arm knows the form, and the definition computes there. Assumes nothing.
-use borrow.Author.Rules.{rules}
 use Rattle.elements.proofs.grammar.may_begin.Goals as goal
 
 pub returns-in-Integer : goal.returns-in-Integer

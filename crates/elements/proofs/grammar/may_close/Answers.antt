@@ -1,6 +1,5 @@
 -- `elements::grammar::may_close`: a record asks for its required fields, another form for nothing. Assumes nothing.
 use Rattle.elements.proofs.Forms.{free}
-use borrow.Author.Rules.{rules}
 use Rattle.elements.proofs.grammar.may_close.Goals as goal
 
 pub returns-in_default : goal.returns-in_default

@@ -1,7 +1,6 @@
 -- `elements::grammar::may_follow`: the tests are those of the definition, in its order; another form than a record asks for nothing. Assumes nothing.
 use borrow.Author.Tests.{le-leb, lt-leb}
 use Rattle.elements.proofs.Forms.{free}
-use borrow.Author.Rules.{rules}
 use Rattle.elements.proofs.grammar.may_follow.Goals as goal
 
 pub returns-in_default : goal.returns-in_default

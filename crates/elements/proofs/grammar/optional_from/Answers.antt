@@ -1,5 +1,4 @@
 -- `elements::grammar::optional_from`: each arm knows the record, and the definition computes there. Assumes nothing.
-use borrow.Author.Rules.{rules}
 use Rattle.elements.proofs.grammar.optional_from.Goals as goal
 
 pub returns-in-DefLine : goal.returns-in-DefLine

@@ -5,7 +5,6 @@ use lib.Signed.{le_z, non_neg}
 use mir.Syntax.{w32}
 use mir.ValLaws.{to_z-of_z}
 use Rattle.laws.proofs.Signed.{at_least_zero}
-use borrow.Author.Rules.{rules}
 use Rattle.fields.proofs.sizes.not_negative_at.Goals as goal
 
 pub returns : goal.returns

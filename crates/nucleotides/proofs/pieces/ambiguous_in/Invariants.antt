@@ -1,11 +1,7 @@
 -- `nucleotides::pieces::ambiguous_in`: the sum of what each place adds. Assumes nothing.
-use mathlib.Core.Path.{◌≡◌, refl, ap, ◌∙◌}
-use Prim.Native.Nat.{ℕ, ◌+◌, ◌-◌, ◌≤◌}
-use native.Mathlib.Omega.{arith}
-use Rattle.laws.proofs.Places.{sum_more}
-use Rattle.nucleotides.specs.Scan.{code_at, ambiguous, ambiguous_in}
-use Rattle.nucleotides.proofs.Starts.{ambiguous-most}
-use borrow.Author.Rules.{rules}
+use mathlib.Core.Path.{◌≡◌}
+use Prim.Native.Nat.{◌-◌, ◌≤◌}
+use Rattle.nucleotides.specs.Scan.{ambiguous_in}
 use Rattle.nucleotides.proofs.pieces.ambiguous_in.Given as goal
 
 abbrev pub invariant-loop-i : goal.invariant-loop-i

@@ -1,11 +1,10 @@
 -- `nucleotides::pieces::begun_in`: the sum of what each place adds. Assumes nothing.
 use mathlib.Core.Path.{◌≡◌, refl, ap, ◌∙◌}
-use Prim.Native.Nat.{ℕ, ◌+◌, ◌-◌, ◌≤◌}
+use Prim.Native.Nat.{ℕ, ◌+◌, ◌-◌}
 use native.Mathlib.Omega.{arith}
 use Rattle.laws.proofs.Places.{sum_more}
 use Rattle.nucleotides.specs.Scan.{code_at, begun, begun_in}
 use Rattle.nucleotides.proofs.Starts.{begun-most}
-use borrow.Author.Rules.{rules}
 use Rattle.nucleotides.proofs.pieces.begun_in.Goals as goal
 
 pub loop-i-init : goal.loop-i-init

@@ -1,7 +1,6 @@
 -- `nucleotides::pieces::behind`: past a code below 4, or past the piece of the stretch that was found. Assumes nothing.
 use native.Mathlib.Omega.{arith}
 use Rattle.nucleotides.proofs.Starts.{past-plain, past_found}
-use borrow.Author.Rules.{rules}
 use Rattle.nucleotides.proofs.pieces.behind.Goals as goal
 
 pub returns-then-codes-at-lt4 : goal.returns-then-codes-at-lt4

@@ -3,7 +3,6 @@ use Prim.Native.Nat.{◌-◌}
 use native.Mathlib.Omega.{arith}
 use Rattle.nucleotides.proofs.Stretches.{met_block}
 use Rattle.nucleotides.proofs.Starts.{begun_fewer, all_one, starts_met}
-use borrow.Author.Rules.{rules}
 use Rattle.nucleotides.proofs.pieces.count_block.Goals as goal
 
 pub returns-then-largest-lt4 : goal.returns-then-largest-lt4

@@ -1,9 +1,6 @@
 -- `nucleotides::pieces::count_pieces`: the scan goes on past a code or past a piece. Assumes nothing.
 use Prim.Native.Nat.{◌-◌, ◌≤◌}
-use native.Mathlib.Omega.{arith}
 use Rattle.nucleotides.specs.Scan.{Met}
-use Rattle.nucleotides.proofs.Stretches.{met_none, met_step, met_piece}
-use borrow.Author.Rules.{rules}
 use Rattle.nucleotides.proofs.pieces.count_pieces.Given as goal
 
 abbrev pub invariant-loop-k : goal.invariant-loop-k

@@ -1,10 +1,8 @@
 -- `nucleotides::pieces::cut_stretch`: pieces of as many codes as the limit allows, then the rest. Assumes nothing.
 use Prim.Native.Nat.{◌+◌, ◌-◌, ◌≤◌}
 use native.Mathlib.Omega.{arith}
-use Rattle.nucleotides.specs.Scan.{Met}
 use Rattle.nucleotides.proofs.Stretches.{met_none, met_join}
 use Rattle.nucleotides.proofs.Starts.{met_cut, pieces-from-count}
-use borrow.Author.Rules.{rules}
 use Rattle.nucleotides.proofs.pieces.cut_stretch.Goals as goal
 
 pub loop-k-init : goal.loop-k-init

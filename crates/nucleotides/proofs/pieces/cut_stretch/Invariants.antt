@@ -1,10 +1,6 @@
 -- `nucleotides::pieces::cut_stretch`: pieces of as many codes as the limit allows, then the rest. Assumes nothing.
-use Prim.Native.Nat.{◌+◌, ◌-◌, ◌≤◌}
-use native.Mathlib.Omega.{arith}
+use Prim.Native.Nat.{◌-◌, ◌≤◌}
 use Rattle.nucleotides.specs.Scan.{Met}
-use Rattle.nucleotides.proofs.Stretches.{met_none, met_join}
-use Rattle.nucleotides.proofs.Starts.{met_cut, pieces-from-count}
-use borrow.Author.Rules.{rules}
 use Rattle.nucleotides.proofs.pieces.cut_stretch.Given as goal
 
 abbrev pub invariant-loop-k : goal.invariant-loop-k

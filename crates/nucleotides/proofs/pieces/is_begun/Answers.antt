@@ -1,7 +1,6 @@
 -- `nucleotides::pieces::is_begun`: by its test. Assumes nothing.
 use mathlib.Core.Path.{◌∙◌}
 use Rattle.nucleotides.proofs.Starts.{begun-same, begun-other}
-use borrow.Author.Rules.{rules}
 use Rattle.nucleotides.proofs.pieces.is_begun.Goals as goal
 
 pub returns-then-previous-code : goal.returns-then-previous-code

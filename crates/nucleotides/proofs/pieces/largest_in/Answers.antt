@@ -1,7 +1,6 @@
 -- `nucleotides::pieces::largest_in`: the codes of the part are those of the whole. Assumes nothing.
 use mathlib.Core.Path.{◌∙◌}
 use Rattle.nucleotides.proofs.Stretches.{largest_part}
-use borrow.Author.Rules.{rules}
 use Rattle.nucleotides.proofs.pieces.largest_in.Goals as goal
 
 pub returns : goal.returns

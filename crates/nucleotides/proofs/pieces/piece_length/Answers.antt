@@ -1,12 +1,10 @@
 -- `nucleotides::pieces::piece_length`: the codes passed are one code; where the loop ends, the piece does. Assumes nothing.
 use mathlib.Core.Path.{◌≡◌, refl, sym, ◌∙◌}
 use mathlib.Core.Logic.{inl, inr}
-use Prim.Native.Nat.{◌+◌, ◌-◌, ◌≤◌, ◌<◌}
+use Prim.Native.Nat.{◌+◌, ◌-◌}
 use native.Mathlib.Omega.{arith}
 use lib.ListN.{length}
-use Rattle.nucleotides.specs.Scan.{code_at}
-use Rattle.nucleotides.proofs.Stretches.{piece_told, Alike, alike_one, alike_more}
-use borrow.Author.Rules.{rules}
+use Rattle.nucleotides.proofs.Stretches.{piece_told, alike_one, alike_more}
 use Rattle.nucleotides.proofs.pieces.piece_length.Goals as goal
 
 pub loop-n-init : goal.loop-n-init

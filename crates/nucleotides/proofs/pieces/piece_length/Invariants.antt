@@ -1,12 +1,9 @@
 -- `nucleotides::pieces::piece_length`: the codes passed are one code; where the loop ends, the piece does. Assumes nothing.
-use mathlib.Core.Path.{◌≡◌, refl, sym, ◌∙◌}
-use mathlib.Core.Logic.{inl, inr}
+use mathlib.Core.Path.{◌≡◌}
 use Prim.Native.Nat.{◌+◌, ◌-◌, ◌≤◌, ◌<◌}
-use native.Mathlib.Omega.{arith}
 use lib.ListN.{length}
 use Rattle.nucleotides.specs.Scan.{code_at}
-use Rattle.nucleotides.proofs.Stretches.{piece_told, Alike, alike_one, alike_more}
-use borrow.Author.Rules.{rules}
+use Rattle.nucleotides.proofs.Stretches.{Alike}
 use Rattle.nucleotides.proofs.pieces.piece_length.Given as goal
 
 abbrev pub invariant-loop-n : goal.invariant-loop-n

@@ -1,11 +1,9 @@
 -- `nucleotides::pieces::stretch_start`: the places passed have one code; where the loop ends, the stretch begins. Assumes nothing.
 use mathlib.Core.Path.{◌≡◌, refl, sym, ap, ◌∙◌}
 use mathlib.Core.Logic.{inl, inr}
-use Prim.Native.Nat.{ℕ, ◌≤◌}
 use native.Mathlib.Omega.{arith}
 use Rattle.nucleotides.specs.Scan.{code_at}
 use Rattle.nucleotides.proofs.Starts.{alike_back}
-use borrow.Author.Rules.{rules}
 use Rattle.nucleotides.proofs.pieces.stretch_start.Goals as goal
 
 pub loop-s-init : goal.loop-s-init

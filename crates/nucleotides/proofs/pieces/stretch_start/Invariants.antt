@@ -1,11 +1,7 @@
 -- `nucleotides::pieces::stretch_start`: the places passed have one code; where the loop ends, the stretch begins. Assumes nothing.
-use mathlib.Core.Path.{◌≡◌, refl, sym, ap, ◌∙◌}
-use mathlib.Core.Logic.{inl, inr}
+use mathlib.Core.Path.{◌≡◌}
 use Prim.Native.Nat.{ℕ, ◌≤◌}
-use native.Mathlib.Omega.{arith}
 use Rattle.nucleotides.specs.Scan.{code_at}
-use Rattle.nucleotides.proofs.Starts.{alike_back}
-use borrow.Author.Rules.{rules}
 use Rattle.nucleotides.proofs.pieces.stretch_start.Given as goal
 
 abbrev pub invariant-loop-s : goal.invariant-loop-s

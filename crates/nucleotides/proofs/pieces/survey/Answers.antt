@@ -1,12 +1,11 @@
 -- `nucleotides::pieces::survey`: block by block, the largest code and the pieces so far. Assumes nothing.
 use mathlib.Core.Path.{◌≡◌, refl, ap, ◌∙◌}
-use Prim.Native.Nat.{◌+◌, ◌-◌, ◌≤◌}
+use Prim.Native.Nat.{◌+◌, ◌-◌}
 use native.Mathlib.Omega.{arith}
 use lib.ListN.{length}
 use Rattle.laws.specs.Places.{largest_to}
 use Rattle.nucleotides.specs.Scan.{code_at, Met}
 use Rattle.nucleotides.proofs.Stretches.{met_none, met_join, met_all, pieces-count, at_most_largest, largest_so_far}
-use borrow.Author.Rules.{rules}
 use Rattle.nucleotides.proofs.pieces.survey.Goals as goal
 
 -- the pieces of a block behind those before it

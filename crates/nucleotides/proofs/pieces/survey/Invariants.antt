@@ -1,12 +1,9 @@
 -- `nucleotides::pieces::survey`: block by block, the largest code and the pieces so far. Assumes nothing.
-use mathlib.Core.Path.{◌≡◌, refl, ap, ◌∙◌}
-use Prim.Native.Nat.{◌+◌, ◌-◌, ◌≤◌}
-use native.Mathlib.Omega.{arith}
+use mathlib.Core.Path.{◌≡◌}
+use Prim.Native.Nat.{◌-◌, ◌≤◌}
 use lib.ListN.{length}
 use Rattle.laws.specs.Places.{largest_to}
 use Rattle.nucleotides.specs.Scan.{code_at, Met}
-use Rattle.nucleotides.proofs.Stretches.{met_none, met_join, met_all, pieces-count, at_most_largest, largest_so_far}
-use borrow.Author.Rules.{rules}
 use Rattle.nucleotides.proofs.pieces.survey.Given as goal
 
 abbrev pub invariant-loop-start : goal.invariant-loop-start

@@ -1,7 +1,6 @@
 -- `nucleotides::table::entry_of`: the fields shifted into place. Assumes nothing.
 use native.Mathlib.Omega.{arith}
 use Rattle.nucleotides.proofs.Entries.{widths, entry_told}
-use borrow.Author.Rules.{rules}
 use Rattle.nucleotides.proofs.table.entry_of.Goals as goal
 
 pub overflow_mul-result : goal.overflow_mul-result

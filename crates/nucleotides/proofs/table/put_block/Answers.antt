@@ -3,7 +3,6 @@ use Prim.Native.Nat.{ℕ}
 use native.Mathlib.Omega.{arith}
 use Rattle.laws.proofs.Storing.{store_none}
 use Rattle.nucleotides.proofs.Stretches.{met_block}
-use borrow.Author.Rules.{rules}
 use Rattle.nucleotides.proofs.table.put_block.Goals as goal
 
 pub returns-then-largest-lt4 : goal.returns-then-largest-lt4

@@ -5,7 +5,6 @@ use native.Mathlib.Omega.{arith}
 use Rattle.fields.specs.Number.{big}
 use Rattle.fields.proofs.Laws.{put_fits}
 use Rattle.sequence.proofs.Ranges.{width_eight}
-use borrow.Author.Rules.{rules}
 use Rattle.nucleotides.proofs.table.put_entry.Goals as goal
 
 pub overflow_cast-entry : goal.overflow_cast-entry

@@ -6,14 +6,11 @@ use native.Mathlib.Omega.{arith}
 use lib.ListN.{length, take}
 use lib.Pow.{pow_pos}
 use lib.Seq.{length-take-le}
-use Rattle.laws.specs.Writing.{written_at}
 use Rattle.laws.proofs.Storing.{store_none}
 use Rattle.nucleotides.specs.Pieces.{piece, pieces_from}
-use Rattle.nucleotides.specs.Table.{entry_bytes}
-use Rattle.nucleotides.specs.Scan.{code_at, Met}
+use Rattle.nucleotides.specs.Scan.{code_at}
 use Rattle.nucleotides.proofs.Stretches.{met_none, met_step, met_piece, met_more, taken_next}
 use Rattle.nucleotides.proofs.Entries.{entry_room, piece_written}
-use borrow.Author.Rules.{rules}
 use Rattle.nucleotides.proofs.table.put_pieces.Goals as goal
 
 -- the piece that a turn puts

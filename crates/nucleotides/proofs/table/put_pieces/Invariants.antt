@@ -1,19 +1,11 @@
 -- `nucleotides::table::put_pieces`: the scan goes on, and a piece adds its entry behind the others. Assumes nothing.
-use mathlib.Core.Path.{◌≡◌, refl, ◌∙◌}
-use mathlib.Core.List.{List}
-use Prim.Native.Nat.{ℕ, ◌+◌, ◌*◌, ◌-◌, ◌≤◌, ◌<◌}
-use native.Mathlib.Omega.{arith}
+use mathlib.Core.Path.{◌≡◌}
+use Prim.Native.Nat.{◌-◌, ◌≤◌}
 use lib.ListN.{length, take}
-use lib.Pow.{pow_pos}
-use lib.Seq.{length-take-le}
 use Rattle.laws.specs.Writing.{written_at}
-use Rattle.laws.proofs.Storing.{store_none}
-use Rattle.nucleotides.specs.Pieces.{piece, pieces_from}
+use Rattle.nucleotides.specs.Pieces.{pieces_from}
 use Rattle.nucleotides.specs.Table.{entry_bytes}
-use Rattle.nucleotides.specs.Scan.{code_at, Met}
-use Rattle.nucleotides.proofs.Stretches.{met_none, met_step, met_piece, met_more, taken_next}
-use Rattle.nucleotides.proofs.Entries.{entry_room, piece_written}
-use borrow.Author.Rules.{rules}
+use Rattle.nucleotides.specs.Scan.{Met}
 use Rattle.nucleotides.proofs.table.put_pieces.Given as goal
 
 abbrev pub invariant-loop-k : goal.invariant-loop-k

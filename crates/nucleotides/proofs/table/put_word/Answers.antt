@@ -11,7 +11,6 @@ use Rattle.laws.specs.Writing.{written_at}
 use Rattle.laws.proofs.Storing.{store_none}
 use Rattle.nucleotides.specs.Table.{table_word}
 use Rattle.nucleotides.proofs.Entries.{word_none, word_some}
-use borrow.Author.Rules.{rules}
 use Rattle.nucleotides.proofs.table.put_word.Goals as goal
 
 pub returns-then-n-eq0 : goal.returns-then-n-eq0

@@ -2,7 +2,6 @@
 use Prim.Native.Nat.{◌*◌, ◌≤◌}
 use native.Mathlib.Omega.{arith}
 use Rattle.nucleotides.proofs.Entries.{word_wide, word_narrow, width_four}
-use borrow.Author.Rules.{rules}
 use Rattle.nucleotides.proofs.table.table_word.Goals as goal
 
 pub overflow_cast-result : goal.overflow_cast-result

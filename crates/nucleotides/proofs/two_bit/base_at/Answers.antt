@@ -1,7 +1,6 @@
 -- `nucleotides::two_bit::base_at`: the base of the code there. Assumes nothing.
 use mathlib.Core.Path.{ap, ◌∙◌}
 use Rattle.nucleotides.specs.TwoBit.{placeholder}
-use borrow.Author.Rules.{rules}
 use Rattle.nucleotides.proofs.two_bit.base_at.Goals as goal
 
 pub returns : goal.returns

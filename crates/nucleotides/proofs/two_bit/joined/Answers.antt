@@ -1,7 +1,6 @@
 -- `nucleotides::two_bit::joined`: four digits of two bits. Assumes nothing.
 use native.Mathlib.Omega.{arith}
 use Rattle.laws.specs.Digits.{value}
-use borrow.Author.Rules.{rules}
 use Rattle.nucleotides.proofs.two_bit.joined.Goals as goal
 
 pub returns : goal.returns

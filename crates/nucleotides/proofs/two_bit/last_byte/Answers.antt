@@ -4,7 +4,6 @@ use native.Mathlib.Omega.{arith}
 use Prim.Native.Nat.{ℕ, ◌+◌, ◌*◌, ◌/◌, ◌%◌}
 use lib.ListN.{length}
 use Rattle.nucleotides.proofs.Packing.{byte_of, behind-zero, last-small}
-use borrow.Author.Rules.{rules}
 use Rattle.nucleotides.proofs.two_bit.last_byte.Goals as goal
 
 pub overflow_add-result : goal.overflow_add-result

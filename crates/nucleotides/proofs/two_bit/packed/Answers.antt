@@ -3,7 +3,6 @@ use Prim.Native.Nat.{◌*◌, ◌/◌, ◌%◌}
 use mathlib.Core.Path.{ap, ◌∙◌}
 use Prim.Native.Nat.{ℕ}
 use Rattle.nucleotides.proofs.Packing.{four_packed}
-use borrow.Author.Rules.{rules}
 use Rattle.nucleotides.proofs.two_bit.packed.Goals as goal
 
 pub returns : goal.returns

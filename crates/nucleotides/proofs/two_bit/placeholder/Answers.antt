@@ -4,7 +4,6 @@ use Prim.Native.Nat.{ℕ, ◌+◌, ◌%◌}
 use native.Mathlib.Omega.{arith}
 use lib.Count.{count_trailing_zeros}
 use Rattle.nucleotides.proofs.Packing.{placeholder-is}
-use borrow.Author.Rules.{rules}
 use Rattle.nucleotides.proofs.two_bit.placeholder.Goals as goal
 
 pub returns : goal.returns

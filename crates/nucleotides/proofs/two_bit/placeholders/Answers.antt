@@ -1,14 +1,11 @@
 -- `nucleotides::two_bit::placeholders`: the bases of the codes passed stand in front. Assumes nothing.
 use mathlib.Core.Path.{◌≡◌, refl, ◌∙◌}
 use native.Mathlib.Omega.{arith}
-use Prim.Native.Nat.{◌≤◌, ◌-◌}
-use lib.ListN.{length, length-set}
-use Rattle.laws.specs.Places.{list_to}
-use Rattle.laws.specs.Writing.{written_at}
+use Prim.Native.Nat.{◌-◌}
+use lib.ListN.{length-set}
 use Rattle.laws.proofs.Storing.{store_none}
 use Rattle.sequence.proofs.Blocks.{begins-next, all_stored}
 use Rattle.nucleotides.specs.TwoBit.{placeholder}
-use borrow.Author.Rules.{rules}
 use Rattle.nucleotides.proofs.two_bit.placeholders.Goals as goal
 
 pub loop-i-init : goal.loop-i-init

@@ -1,14 +1,10 @@
 -- `nucleotides::two_bit::placeholders`: the bases of the codes passed stand in front. Assumes nothing.
-use mathlib.Core.Path.{◌≡◌, refl, ◌∙◌}
-use native.Mathlib.Omega.{arith}
+use mathlib.Core.Path.{◌≡◌}
 use Prim.Native.Nat.{◌≤◌, ◌-◌}
-use lib.ListN.{length, length-set}
+use lib.ListN.{length}
 use Rattle.laws.specs.Places.{list_to}
 use Rattle.laws.specs.Writing.{written_at}
-use Rattle.laws.proofs.Storing.{store_none}
-use Rattle.sequence.proofs.Blocks.{begins-next, all_stored}
 use Rattle.nucleotides.specs.TwoBit.{placeholder}
-use borrow.Author.Rules.{rules}
 use Rattle.nucleotides.proofs.two_bit.placeholders.Given as goal
 
 abbrev pub invariant-loop-i : goal.invariant-loop-i

@@ -1,6 +1,5 @@
 -- `nucleotides::two_bit::write_bytes`: by the largest code. Assumes nothing.
 use native.Mathlib.Omega.{arith}
-use borrow.Author.Rules.{rules}
 use Rattle.nucleotides.proofs.two_bit.write_bytes.Goals as goal
 
 pub write_plain-requires : goal.write_plain-requires

@@ -3,12 +3,11 @@ use mathlib.Core.Path.{◌≡◌, refl, ap, ◌∙◌}
 use mathlib.Core.List.{List}
 use Prim.Native.Nat.{ℕ, ◌+◌, ◌*◌, ◌-◌, ◌≤◌, ◌<◌}
 use native.Mathlib.Omega.{arith}
-use lib.ListN.{length, get_or, set, length-set}
-use Rattle.laws.specs.Writing.{written_at}
+use lib.ListN.{get_or, set, length-set}
 use Rattle.laws.proofs.Places.{list_to_at}
 use Rattle.laws.proofs.Storing.{store_none, store_next}
 use Rattle.nucleotides.specs.TwoBit.{placeholder, placeholder_at, two_bit_byte}
-use Rattle.nucleotides.specs.Scan.{code_at, bytes_from}
+use Rattle.nucleotides.specs.Scan.{code_at}
 use Rattle.nucleotides.proofs.Packing.{placeholder-small, byte_of}
 use borrow.Author.Rules.{rules}
 use Rattle.nucleotides.proofs.two_bit.write_mixed.Goals as goal

@@ -3,13 +3,11 @@ use mathlib.Core.Path.{◌≡◌, refl, ap, sym, ◌∙◌}
 use mathlib.Core.List.{List}
 use Prim.Native.Nat.{ℕ, ◌+◌, ◌*◌, ◌-◌, ◌≤◌, ◌<◌}
 use native.Mathlib.Omega.{arith}
-use lib.ListN.{length, set, length-set}
-use Rattle.laws.specs.Writing.{written_at}
+use lib.ListN.{set, length-set}
 use Rattle.laws.proofs.Storing.{store_none, store_next}
 use Rattle.nucleotides.specs.TwoBit.{placeholder_at, two_bit_byte}
-use Rattle.nucleotides.specs.Scan.{code_at, bytes_from}
+use Rattle.nucleotides.specs.Scan.{code_at}
 use Rattle.nucleotides.proofs.Packing.{placeholder-plain, byte_of}
-use borrow.Author.Rules.{rules}
 use Rattle.nucleotides.proofs.two_bit.write_plain.Goals as goal
 
 pub loop-j-init : goal.loop-j-init

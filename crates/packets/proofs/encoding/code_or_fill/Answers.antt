@@ -4,7 +4,6 @@ use native.Mathlib.Omega.{arith}
 use lib.Dec.{lit<}
 use lib.ListN.{get_or-eq_default}
 use Rattle.packets.proofs.Filled.{code_inside}
-use borrow.Author.Rules.{rules}
 use Rattle.packets.proofs.encoding.code_or_fill.Goals as goal
 
 pub returns-then-next-k : goal.returns-then-next-k

@@ -4,7 +4,6 @@ use Prim.Native.Nat.{ℕ, ◌-◌, ◌+◌, ◌%◌}
 use native.Mathlib.Omega.{arith}
 use Rattle.packets.specs.Packing.{packet_of}
 use Rattle.packets.proofs.Packing.{two_plain, packet_two, packet_five, size_two, size_five}
-use borrow.Author.Rules.{rules}
 use Rattle.packets.proofs.encoding.encode.Goals as goal
 
 pub two_bit-requires : goal.two_bit-requires

@@ -1,7 +1,6 @@
 -- `packets::encoding::five_filled`: its terms are the six codes, each at its place. Assumes nothing.
 use native.Mathlib.Omega.{arith}
 use Rattle.packets.proofs.Filled.{five_sum}
-use borrow.Author.Rules.{rules}
 use Rattle.packets.proofs.encoding.five_filled.Goals as goal
 
 pub returns : goal.returns

@@ -2,7 +2,6 @@
 use mathlib.Core.Path.{◌∙◌}
 use native.Mathlib.Omega.{arith}
 use Rattle.packets.proofs.Filled.{code_inside, five_sum}
-use borrow.Author.Rules.{rules}
 use Rattle.packets.proofs.encoding.five_whole.Goals as goal
 
 pub returns : goal.returns

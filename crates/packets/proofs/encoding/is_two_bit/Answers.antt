@@ -2,7 +2,6 @@
 use mathlib.Core.Path.{sym, ◌∙◌}
 use borrow.Author.Tests.{eq-eqb, ne_eqb}
 use Rattle.packets.proofs.Packing.{amino_five, plain_two}
-use borrow.Author.Rules.{rules}
 use Rattle.packets.proofs.encoding.is_two_bit.Goals as goal
 
 pub returns-then-alphabet-eq3 : goal.returns-then-alphabet-eq3

@@ -1,7 +1,6 @@
 -- `packets::encoding::next_two_bit`: by whether fifteen plain codes come next. Assumes nothing.
 use mathlib.Core.Path.{sym, ◌∙◌}
 use Rattle.packets.proofs.Packing.{two_found, two_missed}
-use borrow.Author.Rules.{rules}
 use Rattle.packets.proofs.encoding.next_two_bit.Goals as goal
 
 pub two_bit-requires : goal.two_bit-requires

@@ -3,7 +3,6 @@ use mathlib.Core.Path.{sym}
 use native.Mathlib.Omega.{arith}
 use Rattle.packets.proofs.Packing.{plain-short}
 use Rattle.packets.proofs.Bases.{plain_fours}
-use borrow.Author.Rules.{rules}
 use Rattle.packets.proofs.encoding.plain_next.Goals as goal
 
 pub returns-then-next-lt15 : goal.returns-then-next-lt15

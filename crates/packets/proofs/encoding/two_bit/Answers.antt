@@ -4,7 +4,6 @@ use Prim.Native.Nat.{ℕ, ◌*◌, ◌/◌, ◌%◌}
 use native.Mathlib.Omega.{arith}
 use Rattle.packets.proofs.Packing.{plain-long}
 use Rattle.packets.proofs.Bases.{bases-sum}
-use borrow.Author.Rules.{rules}
 use Rattle.packets.proofs.encoding.two_bit.Goals as goal
 
 pub four_at-requires : goal.four_at-requires

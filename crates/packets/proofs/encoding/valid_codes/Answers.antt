@@ -2,7 +2,6 @@
 use Rattle.residues.specs.Alphabets.{code_limit}
 use Rattle.laws.proofs.Numbers.{largest-below}
 use Rattle.packets.proofs.Packing.{limit_some}
-use borrow.Author.Rules.{rules}
 use Rattle.packets.proofs.encoding.valid_codes.Goals as goal
 
 pub returns : goal.returns

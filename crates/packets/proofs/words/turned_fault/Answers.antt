@@ -1,7 +1,6 @@
 -- `packets::words::turned_fault`: by the alphabet. Assumes nothing.
 use mathlib.Core.Path.{◌∙◌}
 use Rattle.packets.proofs.Faults.{inner_nucleic}
-use borrow.Author.Rules.{rules}
 use Rattle.packets.proofs.words.turned_fault.Goals as goal
 
 pub returns-then-alphabet-eq3 : goal.returns-then-alphabet-eq3

@@ -4,7 +4,6 @@ use native.Mathlib.Omega.{arith}
 use native.Mathlib.Nat.{mod-eq_of_lt}
 use Rattle.fields.specs.Number.{little}
 use Rattle.fields.proofs.Laws.{bytes-number}
-use borrow.Author.Rules.{rules}
 use Rattle.packets.proofs.words.word_fault.Goals as goal
 
 pub returns-in-Big : goal.returns-in-Big

@@ -4,7 +4,6 @@ use mathlib.Core.Path.{sym, ap, ◌∙◌}
 use Prim.Native.Nat.{ℕ}
 use Rattle.laws.proofs.Largest.{every-most}
 use Rattle.sequence.specs.Sequence.{byte_from, most_protein_byte}
-use borrow.Author.Rules.{rules}
 use Rattle.sequence.proofs.bases.are_proteins.Goals as goal
 
 pub returns : goal.returns

@@ -1,6 +1,5 @@
 -- `sequence::bases::bases`: the digits of the products are the two-bit digits of the byte. Assumes nothing.
 use Rattle.sequence.proofs.FourBases.{four_bases}
-use borrow.Author.Rules.{rules}
 use Rattle.sequence.proofs.bases.bases.Goals as goal
 
 pub returns : goal.returns

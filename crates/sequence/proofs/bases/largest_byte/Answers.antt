@@ -1,11 +1,9 @@
 -- `sequence::bases::largest_byte`: the loop keeps the largest of the bytes passed. Assumes nothing.
-use mathlib.Core.Path.{◌≡◌, refl, ◌∙◌}
+use mathlib.Core.Path.{◌≡◌, refl}
 use native.Mathlib.Omega.{arith}
-use Prim.Native.Nat.{◌≤◌, ◌-◌}
-use Rattle.laws.specs.Places.{largest_to}
+use Prim.Native.Nat.{◌-◌}
 use Rattle.laws.proofs.Places.{largest-more}
 use Rattle.sequence.specs.Sequence.{byte_from}
-use borrow.Author.Rules.{rules}
 use Rattle.sequence.proofs.bases.largest_byte.Goals as goal
 use Rattle.sequence.proofs.bases.largest_byte.Goals.{then-top-b, else-top-b}
 

@@ -1,12 +1,8 @@
 -- `sequence::bases::largest_byte`: the loop keeps the largest of the bytes passed. Assumes nothing.
-use mathlib.Core.Path.{◌≡◌, refl, ◌∙◌}
-use mathlib.Core.Logic.{⊎_elim}
-use native.Mathlib.Omega.{arith}
+use mathlib.Core.Path.{◌≡◌}
 use Prim.Native.Nat.{◌≤◌, ◌-◌}
 use Rattle.laws.specs.Places.{largest_to}
-use Rattle.laws.proofs.Places.{largest-more}
 use Rattle.sequence.specs.Sequence.{byte_from}
-use borrow.Author.Rules.{rules}
 use Rattle.sequence.proofs.bases.largest_byte.Given as goal
 
 abbrev pub invariant-loop-k : goal.invariant-loop-k

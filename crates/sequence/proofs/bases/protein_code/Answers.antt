@@ -1,7 +1,6 @@
 -- `sequence::bases::protein_code`: the byte less 2, mended, is its code. Assumes nothing.
 use native.Mathlib.Omega.{arith}
 use Rattle.sequence.proofs.Blocks.{code_mended}
-use borrow.Author.Rules.{rules}
 use Rattle.sequence.proofs.bases.protein_code.Goals as goal
 
 pub returns : goal.returns

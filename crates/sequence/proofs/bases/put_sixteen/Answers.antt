@@ -2,15 +2,12 @@
 use mathlib.Core.Path.{◌≡◌, refl, ap, ◌∙◌}
 use mathlib.Core.List.{List}
 use native.Mathlib.Omega.{arith}
-use Prim.Native.Nat.{ℕ, ◌≤◌, ◌-◌, ◌+◌}
-use lib.ListN.{length, get_or, set, length-set}
-use Rattle.laws.specs.Writing.{written_at}
+use Prim.Native.Nat.{ℕ, ◌-◌, ◌+◌}
+use lib.ListN.{get_or, set, length-set}
 use Rattle.laws.proofs.Places.{list_to_at}
 use Rattle.laws.proofs.Storing.{store_none, store_next}
 use Rattle.residues.specs.Tables.{protein_code}
-use Rattle.sequence.specs.Mended.{residues_from}
 use Rattle.sequence.specs.Sequence.{byte_from}
-use borrow.Author.Rules.{rules}
 use Rattle.sequence.proofs.bases.put_sixteen.Goals as goal
 
 pub sixteen_codes-codes-requires : goal.sixteen_codes-codes-requires

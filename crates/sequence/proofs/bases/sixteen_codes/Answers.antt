@@ -1,15 +1,12 @@
 -- `sequence::bases::sixteen_codes`: the codes of the bytes passed stand in front. Assumes nothing.
 use mathlib.Core.Path.{◌≡◌, refl, ◌∙◌}
 use native.Mathlib.Omega.{arith}
-use Prim.Native.Nat.{ℕ, ◌≤◌, ◌-◌, ◌+◌}
-use lib.ListN.{length, length-set}
-use Rattle.laws.specs.Writing.{written_at}
+use Prim.Native.Nat.{ℕ, ◌-◌, ◌+◌}
+use lib.ListN.{length-set}
 use Rattle.laws.proofs.Storing.{store_none}
 use Rattle.residues.specs.Tables.{protein_code}
-use Rattle.sequence.specs.Mended.{residues_from}
 use Rattle.sequence.specs.Sequence.{byte_from}
 use Rattle.sequence.proofs.Blocks.{begins-next, all_stored}
-use borrow.Author.Rules.{rules}
 use Rattle.sequence.proofs.bases.sixteen_codes.Goals as goal
 
 pub loop-i-init : goal.loop-i-init

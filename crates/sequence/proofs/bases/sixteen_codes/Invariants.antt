@@ -1,15 +1,9 @@
 -- `sequence::bases::sixteen_codes`: the codes of the bytes passed stand in front. Assumes nothing.
-use mathlib.Core.Path.{◌≡◌, refl, ◌∙◌}
-use native.Mathlib.Omega.{arith}
-use Prim.Native.Nat.{ℕ, ◌≤◌, ◌-◌, ◌+◌}
-use lib.ListN.{length, length-set}
+use mathlib.Core.Path.{◌≡◌}
+use Prim.Native.Nat.{◌≤◌, ◌-◌}
+use lib.ListN.{length}
 use Rattle.laws.specs.Writing.{written_at}
-use Rattle.laws.proofs.Storing.{store_none}
-use Rattle.residues.specs.Tables.{protein_code}
 use Rattle.sequence.specs.Mended.{residues_from}
-use Rattle.sequence.specs.Sequence.{byte_from}
-use Rattle.sequence.proofs.Blocks.{begins-next, all_stored}
-use borrow.Author.Rules.{rules}
 use Rattle.sequence.proofs.bases.sixteen_codes.Given as goal
 
 abbrev pub invariant-loop-i : goal.invariant-loop-i

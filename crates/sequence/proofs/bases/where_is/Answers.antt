@@ -1,7 +1,6 @@
 -- `sequence::bases::where_is`: the number where the two are the same. Assumes nothing.
 use borrow.Author.Tests.{eq-eqb, ne_eqb}
 use native.Mathlib.Omega.{arith}
-use borrow.Author.Rules.{rules}
 use Rattle.sequence.proofs.bases.where_is.Goals as goal
 
 pub returns-then-byte-given : goal.returns-then-byte-given

@@ -3,13 +3,11 @@
 use mathlib.Core.Path.{◌≡◌, refl, sym, ap, ◌∙◌}
 use mathlib.Core.List.{List}
 use native.Mathlib.Omega.{arith}
-use Prim.Native.Nat.{ℕ, ◌≤◌, ◌-◌, ◌*◌, ◌/◌}
-use lib.ListN.{length, get_or, set, length-set}
-use Rattle.laws.specs.Writing.{written_at}
+use Prim.Native.Nat.{ℕ, ◌-◌, ◌*◌, ◌/◌}
+use lib.ListN.{get_or, set, length-set}
 use Rattle.laws.proofs.Storing.{store_front}
-use Rattle.sequence.specs.Bases.{two_bit_residues, base_at}
+use Rattle.sequence.specs.Bases.{base_at}
 use Rattle.sequence.proofs.FourBases.{base_is}
-use borrow.Author.Rules.{rules}
 use Rattle.sequence.proofs.bases.write_bases.Goals as goal
 
 pub loop-k-init : goal.loop-k-init

@@ -1,15 +1,11 @@
 -- `sequence::bases::write_bases`: behind the whole bytes, the residues passed of the last byte are written, and the rest of the output is as it was.
 -- Assumes nothing.
-use mathlib.Core.Path.{◌≡◌, refl, sym, ap, ◌∙◌}
+use mathlib.Core.Path.{◌≡◌}
 use mathlib.Core.List.{List}
-use native.Mathlib.Omega.{arith}
-use Prim.Native.Nat.{ℕ, ◌≤◌, ◌-◌, ◌*◌, ◌/◌}
-use lib.ListN.{length, get_or, set, length-set}
+use Prim.Native.Nat.{ℕ, ◌≤◌, ◌-◌, ◌*◌}
+use lib.ListN.{length}
 use Rattle.laws.specs.Writing.{written_at}
-use Rattle.laws.proofs.Storing.{store_front}
-use Rattle.sequence.specs.Bases.{two_bit_residues, base_at}
-use Rattle.sequence.proofs.FourBases.{base_is}
-use borrow.Author.Rules.{rules}
+use Rattle.sequence.specs.Bases.{two_bit_residues}
 use Rattle.sequence.proofs.bases.write_bases.Given as goal
 
 abbrev pub invariant-loop-k : goal.invariant-loop-k

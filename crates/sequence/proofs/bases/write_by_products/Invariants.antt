@@ -1,14 +1,9 @@
 -- `sequence::bases::write_by_products`: the bases of the bytes passed are written, and the rest of the output is as it was. Assumes nothing.
-use mathlib.Core.Path.{◌≡◌, refl, ap, ◌∙◌}
-use mathlib.Core.List.{List}
-use native.Mathlib.Omega.{arith}
-use Prim.Native.Nat.{ℕ, ◌≤◌, ◌-◌, ◌*◌, ◌+◌}
-use lib.ListN.{length, get_or, set, length-set}
+use mathlib.Core.Path.{◌≡◌}
+use Prim.Native.Nat.{◌≤◌, ◌-◌, ◌*◌}
+use lib.ListN.{length}
 use Rattle.laws.specs.Writing.{written_at}
-use Rattle.laws.proofs.Storing.{store_none}
-use Rattle.sequence.specs.Bases.{two_bit_residues, base_at}
-use Rattle.sequence.proofs.FourBases.{four_stored}
-use borrow.Author.Rules.{rules}
+use Rattle.sequence.specs.Bases.{two_bit_residues}
 use Rattle.sequence.proofs.bases.write_by_products.Given as goal
 
 abbrev pub invariant-loop-m : goal.invariant-loop-m

@@ -2,13 +2,11 @@
 use mathlib.Core.Path.{◌≡◌, refl, ap, ◌∙◌}
 use mathlib.Core.List.{List}
 use native.Mathlib.Omega.{arith}
-use Prim.Native.Nat.{ℕ, ◌≤◌, ◌-◌}
-use lib.ListN.{length, set, length-set}
-use Rattle.laws.specs.Writing.{written_at}
+use Prim.Native.Nat.{ℕ, ◌-◌}
+use lib.ListN.{set, length-set}
 use Rattle.laws.proofs.Storing.{store_none, store_front}
 use Rattle.residues.specs.Tables.{protein_code}
-use Rattle.sequence.specs.Sequence.{byte_from, protein_residues}
-use borrow.Author.Rules.{rules}
+use Rattle.sequence.specs.Sequence.{byte_from}
 use Rattle.sequence.proofs.bases.write_few.Goals as goal
 
 pub loop-k-init : goal.loop-k-init

@@ -1,14 +1,9 @@
 -- `sequence::bases::write_few`: the codes of the bytes passed are written, and the rest of the output is as it was. Assumes nothing.
-use mathlib.Core.Path.{◌≡◌, refl, ap, ◌∙◌}
-use mathlib.Core.List.{List}
-use native.Mathlib.Omega.{arith}
-use Prim.Native.Nat.{ℕ, ◌≤◌, ◌-◌}
-use lib.ListN.{length, set, length-set}
+use mathlib.Core.Path.{◌≡◌}
+use Prim.Native.Nat.{◌≤◌, ◌-◌}
+use lib.ListN.{length}
 use Rattle.laws.specs.Writing.{written_at}
-use Rattle.laws.proofs.Storing.{store_none, store_front}
-use Rattle.residues.specs.Tables.{protein_code}
-use Rattle.sequence.specs.Sequence.{byte_from, protein_residues}
-use borrow.Author.Rules.{rules}
+use Rattle.sequence.specs.Sequence.{protein_residues}
 use Rattle.sequence.proofs.bases.write_few.Given as goal
 
 abbrev pub invariant-loop-k : goal.invariant-loop-k

@@ -1,14 +1,11 @@
 -- `sequence::bases::write_proteins`: each sixteen are written behind those before; the last sixteen over some of them. Assumes nothing.
-use mathlib.Core.Path.{◌≡◌, refl, ◌∙◌}
+use mathlib.Core.Path.{refl, ◌∙◌}
 use native.Mathlib.Omega.{arith}
-use Prim.Native.Nat.{ℕ, ◌≤◌, ◌-◌, ◌+◌}
-use lib.ListN.{length}
-use Rattle.laws.specs.Writing.{written_at}
+use Prim.Native.Nat.{ℕ, ◌-◌, ◌+◌}
 use Rattle.laws.proofs.Storing.{store_none}
 use Rattle.residues.specs.Tables.{protein_code}
-use Rattle.sequence.specs.Sequence.{byte_from, protein_residues}
+use Rattle.sequence.specs.Sequence.{byte_from}
 use Rattle.sequence.proofs.Blocks.{block_stored}
-use borrow.Author.Rules.{rules}
 use Rattle.sequence.proofs.bases.write_proteins.Goals as goal
 
 -- the residue of each byte

@@ -1,14 +1,9 @@
 -- `sequence::bases::write_proteins`: each sixteen are written behind those before; the last sixteen over some of them. Assumes nothing.
-use mathlib.Core.Path.{◌≡◌, refl, ◌∙◌}
-use native.Mathlib.Omega.{arith}
-use Prim.Native.Nat.{ℕ, ◌≤◌, ◌-◌, ◌+◌}
+use mathlib.Core.Path.{◌≡◌}
+use Prim.Native.Nat.{◌≤◌, ◌-◌}
 use lib.ListN.{length}
 use Rattle.laws.specs.Writing.{written_at}
-use Rattle.laws.proofs.Storing.{store_none}
-use Rattle.residues.specs.Tables.{protein_code}
-use Rattle.sequence.specs.Sequence.{byte_from, protein_residues}
-use Rattle.sequence.proofs.Blocks.{block_stored}
-use borrow.Author.Rules.{rules}
+use Rattle.sequence.specs.Sequence.{protein_residues}
 use Rattle.sequence.proofs.bases.write_proteins.Given as goal
 
 abbrev pub invariant-loop-k : goal.invariant-loop-k

@@ -3,11 +3,9 @@ use mathlib.Core.Path.{◌≡◌, sym, ◌∙◌}
 use mathlib.Core.Bool.{Bool, true, false}
 use native.Mathlib.Omega.{arith}
 use Prim.Native.Nat.{◌+◌}
-use borrow.Author.Tests.{not-true, not-false}
 use Rattle.laws.specs.Places.{every}
 use Rattle.sequence.specs.Corrections.{is_table, entry_width, entry_count, entry_fits}
 use Rattle.sequence.proofs.Ranges.{entry_in_file}
-use borrow.Author.Rules.{rules}
 use Rattle.sequence.proofs.corrections.check_table.Goals as goal
 
 -- what the two tests were told, in the definition's terms

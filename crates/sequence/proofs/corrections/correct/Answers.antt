@@ -1,12 +1,10 @@
 -- `sequence::corrections::correct`: the corrections passed are written over the output. Assumes nothing.
 use mathlib.Core.Path.{◌≡◌, refl, ap, ◌∙◌}
 use native.Mathlib.Omega.{arith}
-use Prim.Native.Nat.{◌≤◌, ◌-◌}
+use Prim.Native.Nat.{◌-◌}
 use lib.ListN.{length}
 use Rattle.sequence.specs.declared.Correction.{Correction}
-use Rattle.sequence.specs.Corrections.{corrections_at, corrected}
 use Rattle.sequence.proofs.Corrected.{corrected-next}
-use borrow.Author.Rules.{rules}
 use Rattle.sequence.proofs.corrections.correct.Goals as goal
 
 pub loop-j-init : goal.loop-j-init

@@ -1,12 +1,8 @@
 -- `sequence::corrections::correct`: the corrections passed are written over the output. Assumes nothing.
-use mathlib.Core.Path.{◌≡◌, refl, ap, ◌∙◌}
-use native.Mathlib.Omega.{arith}
+use mathlib.Core.Path.{◌≡◌}
 use Prim.Native.Nat.{◌≤◌, ◌-◌}
 use lib.ListN.{length}
-use Rattle.sequence.specs.declared.Correction.{Correction}
 use Rattle.sequence.specs.Corrections.{corrections_at, corrected}
-use Rattle.sequence.proofs.Corrected.{corrected-next}
-use borrow.Author.Rules.{rules}
 use Rattle.sequence.proofs.corrections.correct.Given as goal
 
 abbrev pub invariant-loop-j : goal.invariant-loop-j

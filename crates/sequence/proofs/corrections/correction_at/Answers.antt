@@ -4,7 +4,6 @@ use native.Mathlib.Omega.{arith}
 use Prim.Native.Nat.{◌≤◌, ◌-◌, ◌*◌, ◌+◌, ◌/◌, ◌%◌, ◌^◌}
 use Rattle.sequence.specs.Corrections.{correction_of, correction_at}
 use Rattle.sequence.proofs.Ranges.{value_shift, offset_shift, repeat_shift, power_shifted, power_positive, correction_small}
-use borrow.Author.Rules.{rules}
 use Rattle.sequence.proofs.corrections.correction_at.Goals as goal
 
 pub entry_at-entry-requires : goal.entry_at-entry-requires

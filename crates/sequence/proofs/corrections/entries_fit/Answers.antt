@@ -1,13 +1,11 @@
 -- `sequence::corrections::entries_fit`: each entry passed fits, and `low` is the end of the last. Assumes nothing.
-use mathlib.Core.Path.{◌≡◌, refl, sym}
+use mathlib.Core.Path.{refl, sym}
 use mathlib.Core.Bool.{true}
 use native.Mathlib.Omega.{arith}
-use Prim.Native.Nat.{◌≤◌, ◌-◌}
-use Rattle.laws.specs.Places.{every}
+use Prim.Native.Nat.{◌-◌}
 use Rattle.laws.proofs.Places.{every_more, every-fails, every-done}
-use Rattle.sequence.specs.Corrections.{end_before, entry_fits}
+use Rattle.sequence.specs.Corrections.{entry_fits}
 use Rattle.sequence.proofs.Ranges.{fits-not-after, fits-not-within, fits_both, end_next}
-use borrow.Author.Rules.{rules}
 use Rattle.sequence.proofs.corrections.entries_fit.Goals as goal
 
 pub loop-j-init : goal.loop-j-init

@@ -1,13 +1,9 @@
 -- `sequence::corrections::entries_fit`: each entry passed fits, and `low` is the end of the last. Assumes nothing.
-use mathlib.Core.Path.{◌≡◌, refl, sym}
+use mathlib.Core.Path.{◌≡◌}
 use mathlib.Core.Bool.{true}
-use native.Mathlib.Omega.{arith}
 use Prim.Native.Nat.{◌≤◌, ◌-◌}
 use Rattle.laws.specs.Places.{every}
-use Rattle.laws.proofs.Places.{every_more, every-fails, every-done}
 use Rattle.sequence.specs.Corrections.{end_before, entry_fits}
-use Rattle.sequence.proofs.Ranges.{fits-not-after, fits-not-within, fits_both, end_next}
-use borrow.Author.Rules.{rules}
 use Rattle.sequence.proofs.corrections.entries_fit.Given as goal
 
 abbrev pub invariant-loop-j : goal.invariant-loop-j

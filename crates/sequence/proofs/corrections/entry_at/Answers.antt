@@ -4,7 +4,6 @@ use native.Mathlib.Omega.{arith}
 use Prim.Native.Nat.{◌+◌}
 use Rattle.volume.proofs.Facts.{part_unsigned}
 use Rattle.sequence.proofs.Ranges.{width_eight}
-use borrow.Author.Rules.{rules}
 use Rattle.sequence.proofs.corrections.entry_at.Goals as goal
 
 pub returns-then-w-eq4 : goal.returns-then-w-eq4

@@ -1,7 +1,6 @@
 -- `sequence::corrections::entry_count`: as many as the first word says, half as many where entries have 64 bits. Assumes nothing.
 use borrow.Author.Tests.{le-leb, lt-leb, eq-eqb, ne_eqb}
 use Rattle.sequence.specs.Corrections.{entry_count}
-use borrow.Author.Rules.{rules}
 use Rattle.sequence.proofs.corrections.entry_count.Goals as goal
 
 pub returns-then-place-end : goal.returns-then-place-end

@@ -3,7 +3,6 @@ use mathlib.Core.Path.{refl}
 use mathlib.Core.Logic.{inl, inr}
 use borrow.Author.Tests.{le-leb, lt-leb}
 use Rattle.sequence.specs.Corrections.{entry_width}
-use borrow.Author.Rules.{rules}
 use Rattle.sequence.proofs.corrections.entry_width.Goals as goal
 
 pub returns-then-be_u32-lt2147483648 : goal.returns-then-be_u32-lt2147483648

@@ -2,12 +2,9 @@
 use mathlib.Core.Path.{◌≡◌, refl, ap, ◌∙◌}
 use mathlib.Core.List.{List}
 use native.Mathlib.Omega.{arith}
-use Prim.Native.Nat.{ℕ, ◌≤◌, ◌-◌, ◌+◌}
-use lib.ListN.{length, set, length-set}
-use Rattle.laws.specs.Places.{list_to}
-use Rattle.laws.specs.Writing.{written_at}
+use Prim.Native.Nat.{ℕ, ◌-◌, ◌+◌}
+use lib.ListN.{set, length-set}
 use Rattle.laws.proofs.Storing.{store_none, store_next}
-use borrow.Author.Rules.{rules}
 use Rattle.sequence.proofs.corrections.fill.Goals as goal
 
 pub loop-i-init : goal.loop-i-init

@@ -1,13 +1,9 @@
 -- `sequence::corrections::fill`: the code stands at the places passed, and the rest of the output is as it was. Assumes nothing.
-use mathlib.Core.Path.{◌≡◌, refl, ap, ◌∙◌}
-use mathlib.Core.List.{List}
-use native.Mathlib.Omega.{arith}
-use Prim.Native.Nat.{ℕ, ◌≤◌, ◌-◌, ◌+◌}
-use lib.ListN.{length, set, length-set}
+use mathlib.Core.Path.{◌≡◌}
+use Prim.Native.Nat.{ℕ, ◌≤◌, ◌-◌}
+use lib.ListN.{length}
 use Rattle.laws.specs.Places.{list_to}
 use Rattle.laws.specs.Writing.{written_at}
-use Rattle.laws.proofs.Storing.{store_none, store_next}
-use borrow.Author.Rules.{rules}
 use Rattle.sequence.proofs.corrections.fill.Given as goal
 
 abbrev pub invariant-loop-i : goal.invariant-loop-i

@@ -1,7 +1,6 @@
 -- `sequence::corrections::is_table`: the tests in the order of the definition. Assumes nothing.
 use borrow.Author.Tests.{le-leb, lt-leb, eq-eqb, ne_eqb}
 use Rattle.sequence.specs.Corrections.{is_table}
-use borrow.Author.Rules.{rules}
 use Rattle.sequence.proofs.corrections.is_table.Goals as goal
 
 pub returns-then-place-end : goal.returns-then-place-end

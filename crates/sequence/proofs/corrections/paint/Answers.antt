@@ -6,7 +6,6 @@ use Prim.Native.Nat.{ℕ, ◌-◌, ◌+◌}
 use Rattle.laws.specs.Places.{list_to}
 use Rattle.laws.specs.Writing.{written_at}
 use Rattle.sequence.proofs.Blocks.{store_block}
-use borrow.Author.Rules.{rules}
 use Rattle.sequence.proofs.corrections.paint.Goals as goal
 
 pub returns-then-n-lt8 : goal.returns-then-n-lt8

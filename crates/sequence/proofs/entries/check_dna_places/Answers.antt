@@ -1,6 +1,5 @@
 -- `sequence::entries::check_dna_places`: each test is that of a rule, in the order of the rules. Assumes nothing.
 use borrow.Author.Tests.{lt-ltb, le-ltb, le-leb, lt-leb}
-use borrow.Author.Rules.{rules}
 use Rattle.sequence.proofs.entries.check_dna_places.Goals as goal
 
 pub returns-then-e : goal.returns-then-e

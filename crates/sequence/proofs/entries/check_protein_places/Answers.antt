@@ -1,6 +1,5 @@
 -- `sequence::entries::check_protein_places`: each test is that of a rule, in the order of the rules. Assumes nothing.
 use borrow.Author.Tests.{lt-ltb, le-ltb, le-leb, lt-leb, eq-eqb, ne_eqb}
-use borrow.Author.Rules.{rules}
 use Rattle.sequence.proofs.entries.check_protein_places.Goals as goal
 
 pub returns-then-start-lt1 : goal.returns-then-start-lt1

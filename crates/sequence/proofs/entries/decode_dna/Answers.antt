@@ -1,5 +1,5 @@
 -- `sequence::entries::decode_dna`: the places, the ambiguity range and the room are asked, in this order, before anything is written. Assumes nothing.
-use mathlib.Core.Path.{◌≡◌, refl, ap, ◌∙◌}
+use mathlib.Core.Path.{refl, ap, ◌∙◌}
 use mathlib.Core.List.{List}
 use native.Mathlib.Omega.{arith}
 use Prim.Native.Nat.{ℕ}

@@ -3,7 +3,6 @@ use native.Mathlib.Omega.{arith}
 use Rattle.volume.proofs.Reading.{tables_near}
 use Rattle.sequence.proofs.Answers.{numbers_of}
 use Rattle.sequence.proofs.Own.{dna-read}
-use borrow.Author.Rules.{rules}
 use Rattle.sequence.proofs.entries.dna_entry.Goals as goal
 
 pub overflow_add-table : goal.overflow_add-table

@@ -5,7 +5,6 @@ use Prim.Native.Nat.{◌-◌}
 use Rattle.volume.proofs.Reading.{tables_near}
 use Rattle.sequence.proofs.Answers.{numbers_of}
 use Rattle.sequence.proofs.Own.{protein-read}
-use borrow.Author.Rules.{rules}
 use Rattle.sequence.proofs.entries.protein_entry.Goals as goal
 
 pub overflow_add-table : goal.overflow_add-table

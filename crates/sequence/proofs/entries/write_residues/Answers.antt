@@ -2,7 +2,6 @@
 use native.Mathlib.Omega.{arith}
 use Rattle.sequence.proofs.Ranges.{table-entries, table-ends}
 use Rattle.sequence.proofs.Corrected.{residues_written}
-use borrow.Author.Rules.{rules}
 use Rattle.sequence.proofs.entries.write_residues.Goals as goal
 
 pub correct-requires : goal.correct-requires

@@ -1,6 +1,5 @@
 -- `sequence::table::pair`: each entry holds the codes of its byte. Assumes nothing.
 use Rattle.sequence.proofs.BaseTable.{pair_codes}
-use borrow.Author.Rules.{rules}
 use Rattle.sequence.proofs.table.pair.Goals as goal
 
 pub returns : goal.returns

@@ -1,13 +1,10 @@
 -- `sequence::table::put_eight`: the bases of the pairs passed are written, and the rest of the output is as it was. Assumes nothing.
 use mathlib.Core.Path.{◌≡◌, refl, ◌∙◌}
-use Prim.Native.Nat.{◌≤◌, ◌-◌, ◌+◌, ◌*◌}
+use Prim.Native.Nat.{◌-◌, ◌+◌, ◌*◌}
 use native.Mathlib.Omega.{arith}
-use lib.ListN.{length}
-use Rattle.laws.specs.Writing.{written_at}
 use Rattle.laws.proofs.Storing.{store_none}
-use Rattle.sequence.specs.Bases.{base_at, two_bit_residues}
+use Rattle.sequence.specs.Bases.{base_at}
 use Rattle.sequence.proofs.BaseTable.{residues_stored}
-use borrow.Author.Rules.{rules}
 use Rattle.sequence.proofs.table.put_eight.Goals as goal
 
 pub loop-i-init : goal.loop-i-init

@@ -2,7 +2,6 @@
 use mathlib.Core.Path.{◌∙◌}
 use native.Mathlib.Omega.{arith}
 use Rattle.sequence.proofs.BaseTable.{pair_from, part_stored}
-use borrow.Author.Rules.{rules}
 use Rattle.sequence.proofs.table.put_pair.Goals as goal
 
 pub returns : goal.returns

@@ -1,7 +1,6 @@
 -- `sequence::table::two_entries`: the bytes of the sum are those of both numbers. Assumes nothing.
 use mathlib.Core.Path.{refl}
 use Rattle.sequence.proofs.BaseTable.{little_join}
-use borrow.Author.Rules.{rules}
 use Rattle.sequence.proofs.table.two_entries.Goals as goal
 
 pub returns : goal.returns

@@ -2,7 +2,6 @@
 use mathlib.Core.Path.{refl}
 use Rattle.laws.specs.Digits.{digits}
 use Rattle.sequence.proofs.BaseTable.{table-holds}
-use borrow.Author.Rules.{rules}
 use Rattle.sequence.proofs.table.write_by_table.Goals as goal
 
 pub write_eights-requires : goal.write_eights-requires

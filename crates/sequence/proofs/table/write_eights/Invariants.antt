@@ -1,13 +1,9 @@
 -- `sequence::table::write_eights`: each eight bytes are written behind those before; the last eight over some of them. Assumes nothing.
-use mathlib.Core.Path.{◌≡◌, refl, ◌∙◌}
-use Prim.Native.Nat.{◌≤◌, ◌-◌, ◌+◌, ◌*◌}
-use native.Mathlib.Omega.{arith}
+use mathlib.Core.Path.{◌≡◌}
+use Prim.Native.Nat.{◌≤◌, ◌-◌, ◌*◌}
 use lib.ListN.{length}
 use Rattle.laws.specs.Writing.{written_at}
-use Rattle.laws.proofs.Storing.{store_none}
-use Rattle.sequence.specs.Bases.{base_at, two_bit_residues}
-use Rattle.sequence.proofs.BaseTable.{residues_stored}
-use borrow.Author.Rules.{rules}
+use Rattle.sequence.specs.Bases.{two_bit_residues}
 use Rattle.sequence.proofs.table.write_eights.Given as goal
 
 abbrev pub invariant-loop-m : goal.invariant-loop-m

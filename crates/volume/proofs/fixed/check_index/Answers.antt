@@ -6,7 +6,6 @@ use Rattle.answers.proofs.Checks.{refused-first, passed_first}
 use Rattle.answers.specs.declared.Checked.TheVariants.{Passed, Refused}
 use Rattle.volume.specs.Index.{title_rules, timestamp_rules, count_rules, table_rules, index_rules}
 use Rattle.volume.proofs.Reading.{tables_near, numbers_are}
-use borrow.Author.Rules.{rules}
 use Rattle.volume.proofs.fixed.check_index.Goals as goal
 
 pub overflow_add-title : goal.overflow_add-title

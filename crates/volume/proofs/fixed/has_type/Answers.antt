@@ -1,6 +1,5 @@
 -- `volume::fixed::has_type`: by its two tests. Assumes nothing.
 use mathlib.Core.Path.{sym, ◌∙◌}
-use borrow.Author.Rules.{rules}
 use Rattle.volume.proofs.fixed.has_type.Goals as goal
 
 pub returns-then-states_at : goal.returns-then-states_at

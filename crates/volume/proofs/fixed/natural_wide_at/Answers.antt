@@ -3,7 +3,6 @@ use mathlib.Core.Path.{ap, ◌∙◌}
 use mir.Syntax.{w64}
 use Rattle.laws.specs.Signed.{to_nat}
 use Rattle.laws.proofs.Signed.{bits_negative, bits_natural, bits_cast}
-use borrow.Author.Rules.{rules}
 use Rattle.volume.proofs.fixed.natural_wide_at.Goals as goal
 
 pub returns-then-n-lt0 : goal.returns-then-n-lt0

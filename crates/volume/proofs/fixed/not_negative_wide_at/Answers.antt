@@ -5,7 +5,6 @@ use lib.Signed.{le_z, non_neg}
 use mir.Syntax.{w64}
 use mir.ValLaws.{to_z-of_z}
 use Rattle.laws.proofs.Signed.{at_least_zero}
-use borrow.Author.Rules.{rules}
 use Rattle.volume.proofs.fixed.not_negative_wide_at.Goals as goal
 
 pub returns : goal.returns

@@ -1,6 +1,5 @@
 -- `volume::fixed::numbers`: each number is read at the place that those before it give. Assumes nothing.
 use Rattle.volume.proofs.Reading.{numbers_read}
-use borrow.Author.Rules.{rules}
 use Rattle.volume.proofs.fixed.numbers.Goals as goal
 
 pub returns : goal.returns

@@ -4,7 +4,6 @@ use Prim.Native.Nat.{ℕ, ◌+◌}
 use Rattle.laws.specs.Signed.{to_nat}
 use Rattle.fields.specs.Number.{little, signed_at}
 use Rattle.volume.specs.Index.{residue_count}
-use borrow.Author.Rules.{rules}
 use Rattle.volume.proofs.fixed.residue_count.Goals as goal
 
 pub returns : goal.returns

@@ -5,7 +5,6 @@ use lib.IntN.{ℤ, pos}
 use mir.Syntax.{w32}
 use Rattle.laws.specs.Signed.{eq_z}
 use Rattle.laws.proofs.Signed.{bits_not_size, bits_size, bits_cast}
-use borrow.Author.Rules.{rules}
 use Rattle.volume.proofs.fixed.states_at.Goals as goal
 
 pub returns-then-n-lt0 : goal.returns-then-n-lt0

@@ -3,7 +3,6 @@ use mathlib.Core.Path.{sym, ◌∙◌}
 use native.Mathlib.Omega.{arith}
 use borrow.Author.Tests.{eq-eqb, ne_eqb}
 use Rattle.volume.proofs.Reading.{tables_near, numbers_are}
-use borrow.Author.Rules.{rules}
 use Rattle.volume.proofs.fixed.tables_end.Goals as goal
 
 pub returns-then-x-eq1 : goal.returns-then-x-eq1

@@ -4,7 +4,6 @@ use Prim.Native.Nat.{ℕ}
 use Rattle.laws.specs.Signed.{to_nat}
 use Rattle.fields.specs.Number.{big, signed_at}
 use Rattle.volume.specs.Index.{timestamp_length}
-use borrow.Author.Rules.{rules}
 use Rattle.volume.proofs.fixed.timestamp_length.Goals as goal
 
 pub returns : goal.returns

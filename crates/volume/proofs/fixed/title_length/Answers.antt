@@ -1,6 +1,5 @@
 -- `volume::fixed::title_length`: the field stands at the place that the fields before it give. Assumes nothing.
 use Rattle.volume.specs.Index.{title_length}
-use borrow.Author.Rules.{rules}
 use Rattle.volume.proofs.fixed.title_length.Goals as goal
 
 pub returns : goal.returns

@@ -1,6 +1,5 @@
 -- `volume::fixed::volume_type`: the field stands at the place that the fields before it give. Assumes nothing.
 use Rattle.volume.specs.Index.{volume_type}
-use borrow.Author.Rules.{rules}
 use Rattle.volume.proofs.fixed.volume_type.Goals as goal
 
 pub returns : goal.returns

@@ -1,13 +1,8 @@
 -- `volume::tables::ambiguity_between`: the loop keeps S[i] and whether every step passed has kept the rule. Assumes nothing.
-use mathlib.Core.Path.{◌≡◌, refl, ◌∙◌}
+use mathlib.Core.Path.{◌≡◌}
 use Prim.Native.Nat.{◌≤◌, ◌-◌}
-use mir.Syntax.{w32}
-use mir.Val.{to_z}
-use mir.ValLaws.{to_z-of_z}
 use Rattle.laws.specs.Places.{every}
 use Rattle.volume.specs.Tables.{offset_at, ambiguity_between}
-use Rattle.volume.proofs.Offsets.{every-next, every-whole}
-use borrow.Author.Rules.{rules}
 use Rattle.volume.proofs.tables.ambiguity_between.Given as goal
 
 abbrev pub invariant-loop-i : goal.invariant-loop-i

@@ -2,8 +2,7 @@
 use mathlib.Core.Path.{◌≡◌, refl, ◌∙◌}
 use mathlib.Core.List.{List}
 use native.Mathlib.Omega.{arith}
-use Prim.Native.Nat.{ℕ, ◌≤◌, ◌<◌, ◌-◌, ◌+◌, ◌*◌}
-use Rattle.laws.specs.Places.{sum_to, largest_to}
+use Prim.Native.Nat.{ℕ, ◌<◌, ◌-◌}
 use Rattle.laws.proofs.Places.{largest-more}
 use Rattle.laws.specs.Rules.{AllHold}
 use Rattle.volume.specs.Index.{sequences, sequence_table, ambiguity_table}

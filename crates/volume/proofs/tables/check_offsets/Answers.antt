@@ -5,7 +5,6 @@ use Rattle.answers.specs.declared.Checked.TheVariants.{Passed, Refused}
 use Rattle.volume.specs.Tables.{header_offset_rules, sequence_offset_rules}
 use native.Mathlib.Omega.{arith}
 use Rattle.volume.proofs.Facts.{two_tables}
-use borrow.Author.Rules.{rules}
 use Rattle.volume.proofs.tables.check_offsets.Goals as goal
 
 pub check_header_offsets-requires : goal.check_header_offsets-requires

@@ -4,14 +4,13 @@ use mathlib.Core.Path.{◌≡◌, refl, sym, ◌∙◌}
 use mathlib.Core.Bool.{true}
 use mathlib.Core.List.{List}
 use native.Mathlib.Omega.{arith}
-use Prim.Native.Nat.{ℕ, ◌≤◌, ◌<◌, ◌-◌, ◌+◌, ◌*◌}
+use Prim.Native.Nat.{ℕ, ◌<◌, ◌-◌}
 use borrow.Author.Tests.{eq-eqb, ne_eqb}
 use lib.Dec.{eqb}
 use lib.ListN.{get_or}
-use Rattle.laws.specs.Places.{every, sum_to, largest_to}
 use Rattle.laws.proofs.Places.{every_more, every-fails, every-done, largest-more}
 use Rattle.volume.specs.Index.{sequences}
-use Rattle.volume.specs.Tables.{sequence_start, protein_length}
+use Rattle.volume.specs.Tables.{protein_length}
 use Rattle.volume.proofs.Lengths.{ProteinTurn, place_at, protein-read, protein_turn, sum_step, stated_at}
 use Rattle.volume.proofs.Named.{nul_behind}
 use borrow.Author.Rules.{rules}

@@ -2,7 +2,6 @@
 use mathlib.Core.Path.{sym, ◌∙◌}
 use native.Mathlib.Omega.{arith}
 use Rattle.volume.proofs.Facts.{two_tables, third_table}
-use borrow.Author.Rules.{rules}
 use Rattle.volume.proofs.tables.check_sequence_offsets.Goals as goal
 
 pub check_protein_offsets-requires : goal.check_protein_offsets-requires

@@ -3,7 +3,6 @@ use mathlib.Core.Path.{◌≡◌}
 use native.Mathlib.Omega.{arith}
 use borrow.Author.Tests.{eq-eqb, ne_eqb}
 use Rattle.volume.specs.Index.{residue_count, longest}
-use borrow.Author.Rules.{rules}
 use Rattle.volume.proofs.tables.check_stated.Goals as goal
 
 pub returns-then-sum-residue_count : goal.returns-then-sum-residue_count

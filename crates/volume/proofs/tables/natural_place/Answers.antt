@@ -5,7 +5,6 @@ use Rattle.volume.specs.Tables.{offset_at}
 use Rattle.volume.proofs.Facts.{part_unsigned}
 use Rattle.volume.proofs.Natural.{natural_field}
 use Rattle.volume.proofs.Reading.{stated_below}
-use borrow.Author.Rules.{rules}
 use Rattle.volume.proofs.tables.natural_place.Goals as goal
 
 pub returns : goal.returns

@@ -5,7 +5,6 @@ use mathlib.Core.Path.{refl, ◌∙◌}
 use Prim.Native.Nat.{◌+◌, ◌*◌}
 use Rattle.volume.specs.Tables.{offset_at}
 use Rattle.volume.proofs.Facts.{part_field}
-use borrow.Author.Rules.{rules}
 use Rattle.volume.proofs.tables.offset.Goals as goal
 
 pub returns : goal.returns

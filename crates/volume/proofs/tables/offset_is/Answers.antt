@@ -1,6 +1,5 @@
 -- `volume::tables::offset_is`: the field at the place of the offset. Assumes nothing.
 use Rattle.volume.specs.Tables.{offset_at}
-use borrow.Author.Rules.{rules}
 use Rattle.volume.proofs.tables.offset_is.Goals as goal
 
 pub returns : goal.returns

@@ -1,6 +1,5 @@
 -- `volume::tables::place`: the field at the place of the offset. Assumes nothing.
 use Rattle.volume.specs.Tables.{offset_at}
-use borrow.Author.Rules.{rules}
 use Rattle.volume.proofs.tables.place.Goals as goal
 
 pub returns : goal.returns
