@@ -50,22 +50,16 @@ fn put_object_id(line: &mut String, object: ObjectId) -> Result<(), AllocError> 
 
 fn put_import(line: &mut String, import: Import) -> Result<(), AllocError> {
     put_signed(line, import.id)?;
-    let db = import.db;
-    put_optional_text(line, db)?;
-    let release = import.release;
-    put_optional_text(line, release)
+    put_optional_text(line, import.db)?;
+    put_optional_text(line, import.release)
 }
 
 fn put_text_id(line: &mut String, tag: u64, id: TextId) -> Result<(), AllocError> {
     put_next(line, tag)?;
-    let name = id.name;
-    put_optional_text(line, name)?;
-    let accession = id.accession;
-    put_optional_text(line, accession)?;
-    let release = id.release;
-    put_optional_text(line, release)?;
-    let version = id.version;
-    put_optional_integer(line, version)
+    put_optional_text(line, id.name)?;
+    put_optional_text(line, id.accession)?;
+    put_optional_text(line, id.release)?;
+    put_optional_integer(line, id.version)
 }
 
 fn put_patent_number(line: &mut String, number: PatentNumber) -> Result<(), AllocError> {
@@ -83,35 +77,24 @@ fn put_patent_number(line: &mut String, number: PatentNumber) -> Result<(), Allo
 
 fn put_patent(line: &mut String, patent: Patent) -> Result<(), AllocError> {
     put_signed(line, patent.seqid)?;
-    let country = patent.country;
-    put_part(line, country)?;
-    let number = patent.number;
-    put_patent_number(line, number)?;
-    let doc_type = patent.doc_type;
-    put_optional_text(line, doc_type)
+    put_part(line, patent.country)?;
+    put_patent_number(line, patent.number)?;
+    put_optional_text(line, patent.doc_type)
 }
 
 fn put_database_tag(line: &mut String, general: DatabaseTag) -> Result<(), AllocError> {
-    let db = general.db;
-    put_part(line, db)?;
-    let tag = general.tag;
-    put_object_id(line, tag)
+    put_part(line, general.db)?;
+    put_object_id(line, general.tag)
 }
 
 fn put_date_fields(line: &mut String, date: DateFields) -> Result<(), AllocError> {
     put_signed(line, date.year)?;
-    let month = date.month;
-    put_optional_integer(line, month)?;
-    let day = date.day;
-    put_optional_integer(line, day)?;
-    let season = date.season;
-    put_optional_text(line, season)?;
-    let hour = date.hour;
-    put_optional_integer(line, hour)?;
-    let minute = date.minute;
-    put_optional_integer(line, minute)?;
-    let second = date.second;
-    put_optional_integer(line, second)
+    put_optional_integer(line, date.month)?;
+    put_optional_integer(line, date.day)?;
+    put_optional_text(line, date.season)?;
+    put_optional_integer(line, date.hour)?;
+    put_optional_integer(line, date.minute)?;
+    put_optional_integer(line, date.second)
 }
 
 fn put_date(line: &mut String, date: OptionalDate) -> Result<(), AllocError> {
@@ -129,11 +112,9 @@ fn put_date(line: &mut String, date: OptionalDate) -> Result<(), AllocError> {
 }
 
 fn put_structure(line: &mut String, structure: Structure) -> Result<(), AllocError> {
-    let mol = structure.mol;
-    put_part(line, mol)?;
+    put_part(line, structure.mol)?;
     put_signed(line, structure.chain)?;
-    let release = structure.release;
-    put_date(line, release)
+    put_date(line, structure.release)
 }
 
 // A kind whose body is one integer.

@@ -16,7 +16,7 @@ use std::io;
 use std::io::{BufReader, BufWriter, Read, Write};
 
 // The most calls of one run.
-const MOST_CALLS: u64 = 1000000000;
+const MOST_CALLS: u64 = 1_000_000_000;
 
 // Runs the case of a call byte: reads its arguments, makes its call and puts what it answers into the line.
 fn run_case<R: Read>(call: u8, input: &mut Input<R>, line: &mut String) -> Result<(), End> {

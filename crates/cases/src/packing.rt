@@ -48,11 +48,7 @@ pub fn unpack<R: Read>(input: &mut Input<R>, line: &mut String) -> Result<(), En
     let alphabet = input.take_number()?;
     let packets = input.take_packets()?;
     let mut out = input.take_output()?;
-    let answer = runs::unpack(
-        narrow(alphabet),
-        packets.as_slice(),
-        out.as_mut_slice(),
-    );
+    let answer = runs::unpack(narrow(alphabet), packets.as_slice(), out.as_mut_slice());
     put_unpack_answer(line, answer)?;
     put_hex(line, out.as_slice())?;
     Ok(())

@@ -58,14 +58,8 @@ pub fn find_identifier<R: Read>(input: &mut Input<R>, line: &mut String) -> Resu
 pub fn step_on<R: Read>(input: &mut Input<R>, line: &mut String) -> Result<(), End> {
     let header = input.take_range()?;
     let record = take_record(input)?;
-    let step = labels::next_title(
-        header.as_slice(),
-        record.start,
-        record.end,
-        record.number,
-    );
-    let answer = step.answer;
-    put_title_answer(line, answer)?;
+    let step = labels::next_title(header.as_slice(), record.start, record.end, record.number);
+    put_title_answer(line, step.answer)?;
     Ok(())
 }
 

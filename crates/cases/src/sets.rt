@@ -22,8 +22,7 @@ fn put_set_answer(line: &mut String, answer: SetAnswer) -> Result<(), AllocError
             put_next(line, set.longest_sequence)?;
             put_next(line, set.count)?;
             put_next(line, set.residues)?;
-            let order = set.order;
-            put_next(line, dsqdata::order_number(order))
+            put_next(line, dsqdata::order_number(set.order))
         }
     }
 }

@@ -2,9 +2,9 @@
 use crate::input::{End, Input};
 use crate::output::{put_hex, put_next, put_number, put_refusal};
 use sequence::DecodeAnswer;
-use volume::VolumeAnswer;
 use std::alloc::AllocError;
 use std::io::Read;
+use volume::VolumeAnswer;
 
 // An answer's number and values.
 fn put_volume_answer(line: &mut String, answer: VolumeAnswer) -> Result<(), AllocError> {

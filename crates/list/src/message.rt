@@ -1,5 +1,5 @@
 // What is told on standard error.
-ghost use Rattle.std.specs.Prelude.{◌≡◌, ◌++◌, ◌<◌, OnOk, IfOk, flat_map};
+ghost use Rattle.std.specs.Prelude.{◌≡◌, ◌++◌, ◌<◌, OnOk, flat_map};
 ghost use Rattle.list.specs.Shown.{shown_byte, hex_digit};
 
 use std::alloc::{AllocError, Global};
