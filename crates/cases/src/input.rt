@@ -1,167 +1,153 @@
-// The stream of cases on standard input: numbers, ranges and outputs, as the protocol has them.
-ghost use Rattle.std.specs.Prelude.{◌≤◌};
+// The stream of cases: numbers, ranges and outputs, as the protocol has them.
+ghost use Rattle.std.specs.Prelude.{◌≤◌, IfOk};
+
+use std::alloc::{AllocError, AllocFailed, Global};
+use std::io;
+use std::io::{ErrorKind, Read};
 
 // The most bytes of a range, the most packets of a packet range and the most numbers of a list of numbers.
-const MOST_BYTES: u64 = 16384;
+const MOST_BYTES: u32 = 16384;
 
-const MOST_PACKETS: u64 = 4096;
+const MOST_PACKETS: u32 = 4096;
 
-const MOST_NUMBERS: u64 = 2048;
+const MOST_NUMBERS: u32 = 2048;
 
-// Whether the run goes on, or why it ends: the stream ends inside a case, a range is too long, or a byte names no call.
+// Why a run ends: the stream ends inside a case, a range is too long, a byte names no call, or a read, a write or an allocation fails.
 #[derive(Clone, Copy)]
-pub enum Stream {
-    On,
+pub enum End {
     Cut,
     TooLong,
     Unknown,
+    Failed(io::Error),
 }
 
-// A number of the stream, or the length of a range, and whether the run goes on behind it. Where it does not, nothing more is read.
-#[derive(Clone, Copy)]
-pub struct Taken {
-    pub stream: Stream,
-    pub value: u64,
-}
-
-pub fn goes_on(stream: Stream) -> bool {
-    match stream {
-        Stream::On => true,
-        Stream::Cut | Stream::TooLong | Stream::Unknown => false,
+impl From<io::Error> for End {
+    fn from(error: io::Error) -> End {
+        End::Failed(error)
     }
 }
 
-// The first n elements of a slice, or all of it where it has fewer.
-pub fn part(s: &[u8], n: u64) -> &[u8] {
-    let end = n as usize;
-    if s.len() < end {
-        return s;
-    }
-    &s[..end]
-}
-
-pub fn part_mut(s: &mut [u8], n: u64) -> &mut [u8] {
-    let end = n as usize;
-    if s.len() < end {
-        return s;
-    }
-    &mut s[..end]
-}
-
-pub fn packets_part(s: &[u32], n: u64) -> &[u32] {
-    let end = n as usize;
-    if s.len() < end {
-        return s;
-    }
-    &s[..end]
-}
-
-pub fn packets_part_mut(s: &mut [u32], n: u64) -> &mut [u32] {
-    let end = n as usize;
-    if s.len() < end {
-        return s;
-    }
-    &mut s[..end]
-}
-
-pub fn numbers_part(s: &[u64], n: u64) -> &[u64] {
-    let end = n as usize;
-    if s.len() < end {
-        return s;
-    }
-    &s[..end]
-}
-
-pub fn numbers_part_mut(s: &mut [u64], n: u64) -> &mut [u64] {
-    let end = n as usize;
-    if s.len() < end {
-        return s;
-    }
-    &mut s[..end]
-}
-
-// What stands before the first number of a case.
-pub fn start() -> Taken {
-    Taken {
-        stream: Stream::On,
-        value: 0,
+impl From<AllocError> for End {
+    fn from(error: AllocError) -> End {
+        End::Failed(io::Error::from(error))
     }
 }
 
-// Reads the next n bytes into the start of a buffer that has room for them.
-fn take_bytes(before: Taken, buffer: &mut [u8], n: u64) -> Stream {
-    let stream = before.stream;
-    if !goes_on(stream) {
-        return stream;
-    }
-    let got = io::read_full(0, part_mut(buffer, n));
-    if (got as u64) < n {
-        return Stream::Cut;
-    }
-    stream
-}
-
-// The next number of w bytes, at most eight.
-fn take_field(before: Taken, w: u64) -> Taken {
-    let mut bytes = [0u8; 8];
-    let stream = take_bytes(before, &mut bytes, w);
-    Taken {
-        stream,
-        value: fields::le_u64(&bytes, 0),
+impl<T: Drop> From<AllocFailed<T>> for End {
+    fn from(error: AllocFailed<T>) -> End {
+        End::Failed(io::Error::from(error))
     }
 }
 
-// The next number of eight bytes.
-pub fn take_number(before: Taken) -> Taken {
-    take_field(before, 8)
+// The rest of a stream. Where a number or a range is not given, the run ends, and nothing more is read.
+#[derive(Drop)]
+pub struct Input<R> {
+    stream: R,
+    alloc: Global,
 }
 
-// The next length, of at most `most` elements.
-fn take_length(before: Taken, most: u64) -> Taken
-    ensures { result.value ≤ most }
-{
-    let n = take_field(before, 4);
-    if n.value > most {
-        return Taken {
-            stream: Stream::TooLong,
-            value: 0,
-        };
+impl<R: Read> Input<R> {
+    pub fn new(alloc: Global, stream: R) -> Input<R> {
+        Input { stream, alloc }
     }
-    n
-}
 
-// Reads the next range into the start of a buffer of MOST_BYTES.
-pub fn take_range(before: Taken, buffer: &mut [u8]) -> Taken {
-    let n = take_length(before, MOST_BYTES);
-    let stream = take_bytes(n, buffer, n.value);
-    Taken {
-        stream,
-        value: n.value,
+    // The byte of the next call; none at the stream's end.
+    pub fn take_call(&mut self) -> Result<Option<u8>, End> {
+        let mut call = [0u8; 1];
+        match self.take_bytes(&mut call) {
+            Ok(()) => Ok(Some(call[0])),
+            Err(End::Cut) => Ok(None),
+            Err(end) => Err(end),
+        }
     }
-}
 
-// Fills a slice with one byte.
-fn fill(s: &mut [u8], b: u8) {
-    let mut i = 0;
-    while i < s.len() {
-        s[i] = b;
-        i += 1;
+    // Fills a buffer with the next bytes.
+    fn take_bytes(&mut self, buffer: &mut [u8]) -> Result<(), End> {
+        match self.stream.read_exact(buffer) {
+            Ok(()) => Ok(()),
+            Err(error) if error.kind() == ErrorKind::UnexpectedEof => Err(End::Cut),
+            Err(error) => Err(End::Failed(error)),
+        }
     }
-}
 
-fn fill_packets(s: &mut [u32], p: u32) {
-    let mut i = 0;
-    while i < s.len() {
-        s[i] = p;
-        i += 1;
+    fn take_byte(&mut self) -> Result<u8, End> {
+        let mut byte = [0u8; 1];
+        self.take_bytes(&mut byte)?;
+        Ok(byte[0])
     }
-}
 
-fn fill_numbers(s: &mut [u64], n: u64) {
-    let mut i = 0;
-    while i < s.len() {
-        s[i] = n;
-        i += 1;
+    // The next number of four bytes.
+    fn take_word(&mut self) -> Result<u32, End> {
+        let mut bytes = [0u8; 4];
+        self.take_bytes(&mut bytes)?;
+        Ok(u32::from_le_bytes(bytes))
+    }
+
+    // The next number of eight bytes.
+    pub fn take_number(&mut self) -> Result<u64, End> {
+        let mut bytes = [0u8; 8];
+        self.take_bytes(&mut bytes)?;
+        Ok(u64::from_le_bytes(bytes))
+    }
+
+    // The next length, of at most `most` elements.
+    fn take_length(&mut self, most: u32) -> Result<usize, End>
+        ensures { IfOk result (λ n. n ≤ most) }
+    {
+        let n = self.take_word()?;
+        if n > most {
+            return Err(End::TooLong);
+        }
+        Ok(n as usize)
+    }
+
+    // The next range.
+    pub fn take_range(&mut self) -> Result<Vec<u8>, End> {
+        let n = self.take_length(MOST_BYTES)?;
+        let mut range = vec![in self.alloc; 0u8; n]?;
+        self.take_bytes(range.as_mut_slice())?;
+        Ok(range)
+    }
+
+    // The next output to lend.
+    pub fn take_output(&mut self) -> Result<Vec<u8>, End> {
+        let n = self.take_length(MOST_BYTES)?;
+        let fill = self.take_byte()?;
+        Ok(vec![in self.alloc; fill; n]?)
+    }
+
+    // The next packet output to lend.
+    pub fn take_packet_output(&mut self) -> Result<Vec<u32>, End> {
+        let n = self.take_length(MOST_PACKETS)?;
+        let fill = self.take_word()?;
+        Ok(vec![in self.alloc; fill; n]?)
+    }
+
+    // The next packet range.
+    pub fn take_packets(&mut self) -> Result<Vec<u32>, End> {
+        let n = self.take_length(MOST_PACKETS)?;
+        let mut packets = Vec::with_capacity(self.alloc, n)?;
+        for _ in 0..n {
+            packets.push(self.take_word()?)?;
+        }
+        Ok(packets)
+    }
+
+    // The next list of numbers.
+    pub fn take_numbers(&mut self) -> Result<Vec<u64>, End> {
+        let n = self.take_length(MOST_NUMBERS)?;
+        let mut numbers = Vec::with_capacity(self.alloc, n)?;
+        for _ in 0..n {
+            numbers.push(self.take_number()?)?;
+        }
+        Ok(numbers)
+    }
+
+    // The next number output to lend.
+    pub fn take_number_output(&mut self) -> Result<Vec<u64>, End> {
+        let n = self.take_length(MOST_NUMBERS)?;
+        let fill = self.take_number()?;
+        Ok(vec![in self.alloc; fill; n]?)
     }
 }
 
@@ -171,88 +157,4 @@ pub fn narrow(n: u64) -> u32 {
         return 0xffff_ffff;
     }
     n as u32
-}
-
-// Lends the next output, at the start of a buffer of MOST_BYTES.
-pub fn take_output(before: Taken, buffer: &mut [u8]) -> Taken {
-    let n = take_length(before, MOST_BYTES);
-    let b = take_field(n, 1);
-    fill(part_mut(buffer, n.value), (b.value % 256) as u8);
-    let stream = b.stream;
-    Taken {
-        stream,
-        value: n.value,
-    }
-}
-
-// Lends the next packet output, at the start of a buffer of MOST_PACKETS.
-pub fn take_packet_output(before: Taken, buffer: &mut [u32]) -> Taken {
-    let n = take_length(before, MOST_PACKETS);
-    let p = take_field(n, 4);
-    fill_packets(packets_part_mut(buffer, n.value), narrow(p.value));
-    let stream = p.stream;
-    Taken {
-        stream,
-        value: n.value,
-    }
-}
-
-// Reads the packets of a slice out of little-endian bytes.
-fn read_packets(bytes: &[u8], packets: &mut [u32]) {
-    let mut i: usize = 0;
-    while i < packets.len() {
-        if i > 4096 {
-            return;
-        }
-        packets[i] = fields::le_u32(bytes, 4 * i);
-        i += 1;
-    }
-}
-
-// Reads the next packet range into the start of a buffer of MOST_PACKETS.
-pub fn take_packets(before: Taken, buffer: &mut [u32]) -> Taken {
-    let n = take_length(before, MOST_PACKETS);
-    let mut bytes = [0u8; 16384];
-    let stream = take_bytes(n, &mut bytes, 4 * n.value);
-    read_packets(&bytes, packets_part_mut(buffer, n.value));
-    Taken {
-        stream,
-        value: n.value,
-    }
-}
-
-// Reads the numbers of a slice out of little-endian bytes.
-fn read_numbers(bytes: &[u8], numbers: &mut [u64]) {
-    let mut i: usize = 0;
-    while i < numbers.len() {
-        if i > 2048 {
-            return;
-        }
-        numbers[i] = fields::le_u64(bytes, 8 * i);
-        i += 1;
-    }
-}
-
-// Reads the next list of numbers into the start of a buffer of MOST_NUMBERS.
-pub fn take_numbers(before: Taken, buffer: &mut [u64]) -> Taken {
-    let n = take_length(before, MOST_NUMBERS);
-    let mut bytes = [0u8; 16384];
-    let stream = take_bytes(n, &mut bytes, 8 * n.value);
-    read_numbers(&bytes, numbers_part_mut(buffer, n.value));
-    Taken {
-        stream,
-        value: n.value,
-    }
-}
-
-// Lends the next number output, at the start of a buffer of MOST_NUMBERS.
-pub fn take_number_output(before: Taken, buffer: &mut [u64]) -> Taken {
-    let n = take_length(before, MOST_NUMBERS);
-    let number = take_field(n, 8);
-    fill_numbers(numbers_part_mut(buffer, n.value), number.value);
-    let stream = number.stream;
-    Taken {
-        stream,
-        value: n.value,
-    }
 }

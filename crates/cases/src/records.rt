@@ -1,26 +1,28 @@
 // The header record calls: 7 identifier, 8 walker step, 9 label.
 use crate::identifiers::put_identifier;
-use crate::input::{Stream, Taken, goes_on, part, start, take_number, take_range};
-use crate::output::{end_line, put_hex, put_next, put_number, put_refusal};
+use crate::input::{End, Input};
+use crate::output::{put_hex, put_next, put_number, put_refusal};
 use deflines::{IdentifierAnswer, TitleAnswer};
+use std::alloc::AllocError;
+use std::io::Read;
 
-fn put_identifier_answer(answer: IdentifierAnswer) {
+fn put_identifier_answer(line: &mut String, answer: IdentifierAnswer) -> Result<(), AllocError> {
     match answer {
-        IdentifierAnswer::Refused(r) => put_refusal(r),
+        IdentifierAnswer::Refused(r) => put_refusal(line, r),
         IdentifierAnswer::Found(identifier) => {
-            put_number(0);
-            put_identifier(identifier);
+            put_number(line, 0)?;
+            put_identifier(line, identifier)
         }
     }
 }
 
-fn put_title_answer(answer: TitleAnswer) {
+fn put_title_answer(line: &mut String, answer: TitleAnswer) -> Result<(), AllocError> {
     match answer {
-        TitleAnswer::Refused(r) => put_refusal(r),
+        TitleAnswer::Refused(r) => put_refusal(line, r),
         TitleAnswer::Title(span) => {
-            put_number(0);
-            put_next(span.start as u64);
-            put_next(span.len as u64);
+            put_number(line, 0)?;
+            put_next(line, span.start as u64)?;
+            put_next(line, span.len as u64)
         }
     }
 }
@@ -28,77 +30,46 @@ fn put_title_answer(answer: TitleAnswer) {
 // The arguments after a header file: a record's start and end, and a number.
 #[derive(Clone, Copy)]
 struct Record {
-    stream: Stream,
     start: u64,
     end: u64,
     number: u64,
 }
 
-fn take_record(before: Taken) -> Record {
-    let first = take_number(before);
-    let end = take_number(first);
-    let number = take_number(end);
-    let stream = number.stream;
-    Record {
-        stream,
-        start: first.value,
-        end: end.value,
-        number: number.value,
-    }
+fn take_record<R: Read>(input: &mut Input<R>) -> Result<Record, End> {
+    let start = input.take_number()?;
+    let end = input.take_number()?;
+    let number = input.take_number()?;
+    Ok(Record { start, end, number })
 }
 
-pub fn find_identifier() -> Stream {
-    let mut header = [0u8; 16384];
-    let h = take_range(start(), &mut header);
-    let record = take_record(h);
-    let stream = record.stream;
-    if !goes_on(stream) {
-        return stream;
-    }
-    put_identifier_answer(deflines::find_identifier(
-        part(&header, h.value),
-        record.start,
-        record.end,
-        record.number,
-    ));
-    end_line();
-    stream
-}
-
-pub fn step_on() -> Stream {
-    let mut header = [0u8; 16384];
-    let h = take_range(start(), &mut header);
-    let record = take_record(h);
-    let stream = record.stream;
-    if !goes_on(stream) {
-        return stream;
-    }
-    let step = labels::next_title(
-        part(&header, h.value),
+pub fn find_identifier<R: Read>(input: &mut Input<R>, line: &mut String) -> Result<(), End> {
+    let header = input.take_range()?;
+    let record = take_record(input)?;
+    let answer = deflines::find_identifier(
+        header.as_slice(),
         record.start,
         record.end,
         record.number,
     );
-    let answer = step.answer;
-    put_title_answer(answer);
-    end_line();
-    stream
+    put_identifier_answer(line, answer)?;
+    Ok(())
 }
 
-pub fn label() -> Stream {
-    let mut index = [0u8; 16384];
-    let i = take_range(start(), &mut index);
-    let mut header = [0u8; 16384];
-    let h = take_range(i, &mut header);
-    let number = take_number(h);
-    let stream = number.stream;
-    if !goes_on(stream) {
-        return stream;
-    }
-    put_number(
-        labels::label_number(part(&index, i.value), part(&header, h.value), number.value) as u64,
-    );
-    put_hex(labels::label_part(part(&index, i.value), part(&header, h.value), number.value));
-    end_line();
-    stream
+pub fn step_on<R: Read>(input: &mut Input<R>, line: &mut String) -> Result<(), End> {
+    let header = input.take_range()?;
+    let record = take_record(input)?;
+    let step = labels::next_title(header.as_slice(), record.start, record.end, record.number);
+    put_title_answer(line, step.answer)?;
+    Ok(())
+}
+
+pub fn label<R: Read>(input: &mut Input<R>, line: &mut String) -> Result<(), End> {
+    let index = input.take_range()?;
+    let header = input.take_range()?;
+    let number = input.take_number()?;
+    let answer = labels::label_number(index.as_slice(), header.as_slice(), number);
+    put_number(line, answer as u64)?;
+    let part = labels::label_part(index.as_slice(), header.as_slice(), number);
+    put_hex(line, part)?;
+    Ok(())
 }

@@ -1,51 +1,44 @@
 // Writing nucleotides: calls 14 and 15.
-use crate::input::{
-    Stream, goes_on, narrow, part, part_mut, start, take_number, take_output, take_range,
-};
-use crate::output::{end_line, put_hex, put_next, put_number, put_refusal};
+use crate::input::{End, Input, narrow};
+use crate::output::{put_hex, put_next, put_number, put_refusal};
 use nucleotides::{BasesAnswer, WriteAnswer};
+use std::alloc::AllocError;
+use std::io::Read;
 
 // An answer's number, and the sizes of both parts.
-fn put_write_answer(answer: WriteAnswer) {
+fn put_write_answer(line: &mut String, answer: WriteAnswer) -> Result<(), AllocError> {
     match answer {
-        WriteAnswer::Refused(r) => put_refusal(r),
+        WriteAnswer::Refused(r) => put_refusal(line, r),
         WriteAnswer::Written { two_bit, table } => {
-            put_number(0);
-            put_next(two_bit as u64);
-            put_next(table as u64);
+            put_number(line, 0)?;
+            put_next(line, two_bit as u64)?;
+            put_next(line, table as u64)
         }
     }
 }
 
-pub fn write_nucleotides() -> Stream {
-    let mut codes = [0u8; 16384];
-    let c = take_range(start(), &mut codes);
-    let mut out = [0u8; 16384];
-    let k = take_output(c, &mut out);
-    let stream = k.stream;
-    if !goes_on(stream) {
-        return stream;
-    }
-    let answer = nucleotides::write_nucleotides(part(&codes, c.value), part_mut(&mut out, k.value));
-    put_write_answer(answer);
-    put_hex(part(&out, k.value));
-    end_line();
-    stream
+pub fn write_nucleotides<R: Read>(input: &mut Input<R>, line: &mut String) -> Result<(), End> {
+    let codes = input.take_range()?;
+    let mut out = input.take_output()?;
+    let answer = nucleotides::write_nucleotides(codes.as_slice(), out.as_mut_slice());
+    put_write_answer(line, answer)?;
+    put_hex(line, out.as_slice())?;
+    Ok(())
 }
 
-pub fn bases_of_code() -> Stream {
-    let code = take_number(start());
-    let stream = code.stream;
-    if !goes_on(stream) {
-        return stream;
-    }
-    match nucleotides::bases_of_code(narrow(code.value)) {
-        BasesAnswer::Refused(r) => put_refusal(r),
+// An answer's number, and how many bases a code stands for.
+fn put_bases_answer(line: &mut String, answer: BasesAnswer) -> Result<(), AllocError> {
+    match answer {
+        BasesAnswer::Refused(r) => put_refusal(line, r),
         BasesAnswer::Bases(n) => {
-            put_number(0);
-            put_next(n as u64);
+            put_number(line, 0)?;
+            put_next(line, n as u64)
         }
     }
-    end_line();
-    stream
+}
+
+pub fn bases_of_code<R: Read>(input: &mut Input<R>, line: &mut String) -> Result<(), End> {
+    let code = input.take_number()?;
+    put_bases_answer(line, nucleotides::bases_of_code(narrow(code)))?;
+    Ok(())
 }
