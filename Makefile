@@ -1,6 +1,6 @@
 # make            proves every crate, builds the library, the programs, their man pages and the test program, and runs the programs on the samples
 # make demo       the programs on the samples once more
-# make test       the gate: all proofs from nothing, every must-fail edit, every test
+# make test       the gate: every proof, every must-fail edit, every test
 # make edits      the wrong programs that are kept aside: the prover must refuse each
 # make wrong      wrong versions of the C programs: their tests must refuse each
 # make bench      the library beside the best C, unchecked C and memcpy, in one run; BEFORE=../old/build/libtiming.a: beside that too
