@@ -1,6 +1,6 @@
-# make            proves every crate, builds the library, the programs and their man pages, and runs them on the samples
+# make            proves every crate, builds the library, the programs, their man pages and the test program, and runs the programs on the samples
 # make demo       the programs on the samples once more
-# make test       the gate: all proofs from nothing, every must-fail edit, every test
+# make test       the gate: every proof, every must-fail edit, every test
 # make edits      the wrong programs that are kept aside: the prover must refuse each
 # make wrong      wrong versions of the C programs: their tests must refuse each
 # make bench      the library beside the best C, unchecked C and memcpy, in one run; BEFORE=../old/build/libtiming.a: beside that too
@@ -14,7 +14,7 @@ CC ?= cc
 CFLAGS ?= -O2
 WARNINGS = -std=c99 -Wall -Wextra -pedantic
 
-CRATES := crates.txt $(shell find crates -type f -not -path '*/must-fail/*')
+CRATES := crates.txt $(shell find crates -type f -not -path '*/must-fail/*' -not -path '*/out/*')
 HEADERS := $(wildcard console/*.h include/*.h)
 SHARED = console/gull.c console/text.c console/input.c
 CHECK = console/gullcheck.c console/report.c console/names.c console/volume.c console/hint.c console/jobs.c
@@ -27,7 +27,7 @@ LINK = $(CC) $(CPPFLAGS) $(WARNINGS) $(CFLAGS) $(LDFLAGS) -o $@ $(filter %.c,$^)
 .DELETE_ON_ERROR:
 .PHONY: all prove lib timing programs man demo test edits wrong bench torture install uninstall clean FORCE
 
-all: build/proved build/demo.txt man
+all: build/proved build/demo.txt man build/bin/cases
 
 prove: build/proved
 lib: build/libgullcordage.a
@@ -35,23 +35,36 @@ timing: build/libtiming.a
 programs: $(PROGRAMS:%=build/bin/%)
 man: $(PAGES)
 
-# tools/rt lets one rt run at a time.
+# tools/rt lets one rt run at a time. The gate makes build/proved too, where `rt ci` passed.
 build/proved: $(CRATES)
-	@tools/rt check
+	@mkdir -p build
+	@tools/rt all check
 	@touch $@
 
 build/libgullcordage.a: $(CRATES)
-	@tools/rt staticlib console
-	cp target/staticlib/libconsole.a $@
+	@tools/rt -C console_c lib
+	cp crates/console_c/out/libconsole_c.a $@
 
 build/libtiming.a: $(CRATES)
-	@tools/rt staticlib timing
-	cp target/staticlib/libtiming.a $@
+	@tools/rt -C timing_c lib
+	cp crates/timing_c/out/libtiming_c.a $@
 
-build/bin/gulllist: $(CRATES)
-	@tools/rt check list
+# A program stays in its crate's out/ where `rt run` has run it, and where `rt ci` has.
+crates/cases/out/cases: $(CRATES)
+	@tools/rt -C cases run < /dev/null
+	@touch $@
+
+crates/list/out/list: $(CRATES)
+	@tools/rt -C list run -- --help
+	@touch $@
+
+build/bin/cases: crates/cases/out/cases
 	@mkdir -p build/bin
-	cp target/bin/list $@
+	cp crates/cases/out/cases $@
+
+build/bin/gulllist: crates/list/out/list
+	@mkdir -p build/bin
+	cp crates/list/out/list $@
 
 build/bin/gullcheck: $(CHECK) $(SHARED) $(HEADERS) build/libgullcordage.a
 	@mkdir -p build/bin
@@ -111,10 +124,9 @@ build/bench/bench build/bench/beside: $(wildcard bench/*.c bench/*.h) include/gu
 bench: build/bench/$(if $(BEFORE),beside,bench)
 	$<
 
-torture:
-	@test -x target/bin/cases || { echo "torture: target/bin/cases is not there; run make first"; exit 1; }
+torture: build/bin/cases
 	cd second && cargo build --offline --release
-	second/target/release/compare target/bin/cases --calls present --seed $(SEED) --count $(COUNT)
+	second/target/release/compare build/bin/cases --calls present --seed $(SEED) --count $(COUNT)
 
 install: lib programs man
 	install -d $(DESTDIR)$(PREFIX)/include $(DESTDIR)$(PREFIX)/lib/pkgconfig $(DESTDIR)$(PREFIX)/bin
@@ -133,4 +145,4 @@ uninstall:
 	rm -f $(PROGRAMS:%=$(DESTDIR)$(PREFIX)/share/man/man1/%.1) $(DESTDIR)$(PREFIX)/share/man/man3/gullcordage.3
 
 clean:
-	rm -rf target build second/target
+	rm -rf build second/target crates/*/out

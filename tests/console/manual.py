@@ -59,7 +59,7 @@ def test_tables():
     places = [place for row in rows('The map') for place in re.findall('`([^`]+)`', row[0])]
     for place in places:
         count(os.path.exists(place), f'README: {place} is there')
-    crates = {f'crates/{line.split(":")[0].strip()}' for line in open('crates.txt', encoding='utf-8') if line.strip() and line[0] != '#'}
+    crates = {f'crates/{line.split(":")[0].split()[0]}' for line in open('crates.txt', encoding='utf-8') if line.strip() and line[0] != '#'}
     count(crates <= set(places), 'README has every crate', crates - set(places))
 
 

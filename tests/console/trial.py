@@ -2,7 +2,7 @@
 
 GULL_BIN names the folder of the programs, GULL_SOURCE the tree they were built from, GULL_WORK a folder to write in; GULL_FIRST=1 ends at
 the first failure. Nothing may run for longer than PATIENCE seconds."""
-import os, shutil, struct, subprocess, sys
+import atexit, os, shutil, struct, subprocess, sys
 
 BIN = os.environ.get('GULL_BIN', 'build/bin')
 SOURCE = os.environ.get('GULL_SOURCE', '.')
@@ -27,6 +27,18 @@ def count(good, what, why=''):
     print(f'not so: {what}\n  {why}'[:2000], flush=True)
     if os.environ.get('GULL_FIRST'):
         finish()
+
+
+def unlinked():
+    """Takes the links out of WORK at the end: `rt ci` stops at a link in a checkout."""
+    for folder, folders, names in os.walk(WORK):
+        for name in folders + names:
+            path = os.path.join(folder, name)
+            if os.path.islink(path):
+                os.remove(path)
+
+
+atexit.register(unlinked)
 
 
 def skipped(what, why):
