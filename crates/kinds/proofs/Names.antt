@@ -18,7 +18,7 @@ use Rattle.kinds.specs.Names.{codes, names, kind_name, put_answer, written_by, n
 
 -- the names with a space between each two, and where each starts
 abbrev letters : List ℕ
-letters = codes "local gibbsq gibbmt giim genbank embl pir swissprot patent other general gi ddbj prf pdb tpg tpe tpd gpipe named_annot_track"
+letters = codes "local gibbsq gibbmt giim genbank embl pir swissprot patent other general gi ddbj prf pdb tpg tpe tpd gpipe named-annot-track"
 
 abbrev starts : List ℕ
 starts = 0 ∷ 6 ∷ 13 ∷ 20 ∷ 25 ∷ 33 ∷ 38 ∷ 42 ∷ 52 ∷ 59 ∷ 65 ∷ 73 ∷ 76 ∷ 81 ∷ 85 ∷ 89 ∷ 93 ∷ 97 ∷ 101 ∷ 107 ∷ 125 ∷ []

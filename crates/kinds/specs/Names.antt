@@ -39,7 +39,7 @@ names =
     ∷ codes "tpe"
     ∷ codes "tpd"
     ∷ codes "gpipe"
-    ∷ codes "named_annot_track"
+    ∷ codes "named-annot-track"
     ∷ []
 
 -- The name of a kind, by its tag.

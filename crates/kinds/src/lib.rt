@@ -15,7 +15,7 @@ pub enum NameAnswer {
 
 // The twenty names in source 001's order.
 const NAMES: [u8; 124] =
-    *b"local gibbsq gibbmt giim genbank embl pir swissprot patent other general gi ddbj prf pdb tpg tpe tpd gpipe named_annot_track";
+    *b"local gibbsq gibbmt giim genbank embl pir swissprot patent other general gi ddbj prf pdb tpg tpe tpd gpipe named-annot-track";
 
 // Where each name starts in them; each but the last has a space behind it.
 const STARTS: [u8; 21] = [
