@@ -6,11 +6,11 @@ use std::io;
 use std::io::{ErrorKind, Read};
 
 // The most bytes of a range, the most packets of a packet range and the most numbers of a list of numbers.
-const MOST_BYTES: u32 = 16384;
+const MOST_BYTES: u64 = 16384;
 
-const MOST_PACKETS: u32 = 4096;
+const MOST_PACKETS: u64 = 4096;
 
-const MOST_NUMBERS: u32 = 2048;
+const MOST_NUMBERS: u64 = 2048;
 
 // Why a run ends: the stream ends inside a case, a range is too long, a byte names no call, or a read, a write or an allocation fails.
 #[derive(Clone, Copy)]
@@ -91,10 +91,10 @@ impl<R: Read> Input<R> {
     }
 
     // The next length, of at most `most` elements.
-    fn take_length(&mut self, most: u32) -> Result<usize, End>
+    fn take_length(&mut self, most: u64) -> Result<usize, End>
         ensures { IfOk result (λ n. n ≤ most) }
     {
-        let n = self.take_word()?;
+        let n = self.take_word()? as u64;
         if n > most {
             return Err(End::TooLong);
         }

@@ -1,5 +1,5 @@
 // Reading the file of a name, which is bytes.
-ghost use Rattle.std.specs.Prelude.{◌≡◌, IfOk, IfSome, take};
+ghost use Rattle.std.specs.Prelude.{◌≡◌, ◌≤◌, IfOk, IfSome, length, take};
 
 use listing::MOST_LISTED;
 use std::alloc::Global;
@@ -28,10 +28,12 @@ pub fn name_too_long() -> Error {
 
 // The first bytes of a file, MOST_READ of them at most.
 fn read_part<R: Read + Drop>(alloc: Global, file: R) -> io::Result<Vec<u8>>
-    ensures { IfOk result (λ v. IfSome (R.remaining file) (λ bytes. v.items ≡ take 16385 bytes)) }
+    ensures first { IfOk result (λ v. IfSome (R.remaining file) (λ bytes. v.items ≡ take 16385 bytes)) }
+    ensures most { IfOk result (λ v. length v.items ≤ 16385) }
 {
     let mut bytes = Vec::new(alloc);
     file.take(MOST_READ).read_to_end(&mut bytes)?;
+    bytes.truncate(MOST_READ as usize);
     Ok(bytes)
 }
 
@@ -76,7 +78,9 @@ fn why_not_text<R: Files + AllocGlobal>(rt: &R, name: &[u8]) -> Error {
 }
 
 // Reads the first bytes of the file of a name.
-pub fn read<R: Files + AllocGlobal>(rt: &R, name: &[u8]) -> io::Result<Vec<u8>> {
+pub fn read<R: Files + AllocGlobal>(rt: &R, name: &[u8]) -> io::Result<Vec<u8>>
+    ensures { IfOk result (λ v. length v.items ≤ 16385) }
+{
     match str::from_utf8(name) {
         Ok(path) => read_part(rt.alloc(), fs::open(rt, path)?),
         Err(_) => Err(why_not_text(rt, name)),

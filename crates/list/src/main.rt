@@ -6,6 +6,8 @@ mod arguments;
 mod file;
 mod message;
 
+ghost use Rattle.std.specs.Prelude.{◌≤◌, IfOk, IfSome, length};
+
 use arguments::Argument;
 use listing::LISTING_ROOM;
 use std::io;
@@ -16,7 +18,9 @@ then the number and the length of each sequence.
 ";
 
 // The bytes of the file that an argument names. Where they cannot be read it tells why.
-fn load(rt: &HostRuntime, argument: &Argument) -> io::Result<Option<Vec<u8>>> {
+fn load(rt: &HostRuntime, argument: &Argument) -> io::Result<Option<Vec<u8>>>
+    ensures { IfOk result (λ loaded. IfSome loaded (λ v. length v.items ≤ 16385)) }
+{
     let name = match argument {
         Argument::Name(name) => name.as_slice(),
         Argument::TooLong => {
