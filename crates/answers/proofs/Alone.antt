@@ -4,16 +4,15 @@ use mathlib.Core.List.{List, []}
 use Rattle.laws.specs.Rules.{Rule, verdict}
 use Rattle.laws.proofs.Rules.{verdict-append}
 use Rattle.answers.specs.declared.Refusal.{Refusal}
-use Rattle.answers.specs.declared.Checked.{Checked}
-use Rattle.answers.specs.declared.Checked.TheVariants.{Passed, Refused}
+use Rattle.std.specs.Prelude.{Result, Ok, Err}
 use Rattle.answers.specs.Limits.{checked_by}
 use Rattle.answers.proofs.Checks.{refused-first, passed_first}
 
-module _ (rules : List (Rule Refusal)) (c : Checked) (e : c ≡ checked_by rules) {B : Type 0} (told : Refusal → B) (fine : B) where
+module _ (rules : List (Rule Refusal)) (c : Result Unit Refusal) (e : c ≡ checked_by rules) {B : Type 0} (told : Refusal → B) (fine : B) where
   -- the check refused
-  pub refused-alone : (r : Refusal) → c ≡ Refused r → verdict told fine rules ≡ told r
+  pub refused-alone : (r : Refusal) → c ≡ Err r → verdict told fine rules ≡ told r
   refused-alone r p = sym (verdict-append told fine rules []) ∙ refused-first rules [] c r e p told fine
 
   -- the check passed
-  pub passed_alone : c ≡ Passed → verdict told fine rules ≡ fine
+  pub passed_alone : c ≡ Ok tt → verdict told fine rules ≡ fine
   passed_alone p = sym (verdict-append told fine rules []) ∙ passed_first rules [] c e p told fine

@@ -3,8 +3,7 @@
 use Rattle.std.specs.Prelude.{ℕ}
 use Rattle.answers.specs.declared.Refusal.{Refusal}
 use Rattle.answers.specs.declared.Refusal.TheVariants as R
-use Rattle.answers.specs.declared.Checked.{Checked}
-use Rattle.answers.specs.declared.Checked.TheVariants.{Passed, Refused}
+use Rattle.std.specs.Prelude.{Result, Ok, Err}
 
 -- The number of a refusal; each case's comment is its row of the table.
 abbrev pub number_of : Refusal → ℕ
@@ -52,6 +51,6 @@ number_of R.TooDeep = 21
 number_of R.TooLarge = 22
 
 -- The number of a check that returns no values: 0 on success.
-abbrev pub checked_number : Checked → ℕ
-checked_number Passed = 0
-checked_number (Refused r) = number_of r
+abbrev pub checked_number : Result Unit Refusal → ℕ
+checked_number (Ok tt) = 0
+checked_number (Err r) = number_of r

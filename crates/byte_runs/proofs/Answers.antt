@@ -2,7 +2,6 @@
 use mathlib.Core.Path.{◌≡◌}
 use mathlib.Core.List.{List}
 use Prim.Native.Nat.{ℕ, ◌%◌, ◌≤◌, ◌<◌}
-use native.Mathlib.Omega.{arith}
 use lib.ListN.{length}
 use borrow.Author.Tests.{le-leb, lt-leb, leb-true, eq-eqb, ne_eqb, eqb-true}
 use Rattle.laws.specs.Writing.{written_at}
@@ -13,24 +12,24 @@ use Rattle.packets.specs.Positions.{byte_of}
 use Rattle.packets.specs.Packing.{run}
 use Rattle.packets.specs.Runs.{unpacked}
 use Rattle.packets.specs.Reading.{run_length}
-use Rattle.packets.specs.declared.RunLength.TheVariants.{NoRun}
+use Rattle.std.specs.Prelude.{None, Ok, Err}
 use Rattle.packets.specs.Bytes.{packets_by, packets_of, bytes_of}
-use Rattle.runs.specs.declared.PackAnswer.TheVariants as Pack
-use Rattle.runs.specs.declared.UnpackAnswer.TheVariants as Unpack
-use Rattle.runs.proofs.Answers.{MayUnpack, RunAnswer, may_unpack, unpacked-holds}
+use Rattle.runs.specs.declared.RunSize.{RunSize}
+use Rattle.runs.specs.Answers.{unpacked_size}
+use Rattle.runs.proofs.Answers.{MayUnpack, RunAnswer, may_unpack, answer_holds}
 use Rattle.byte_runs.specs.Bytes.{pack_bytes_answer, bytes_after, run_in, unpack_bytes_rules, unpack_bytes_answer, codes_after_bytes}
 
 -- ---- packing: what the bytes are after
 
 module _ (a : ℕ) (codes bytes : List ℕ) (place : ℕ) where
-  pub bytes_kept : (r : Refusal) → pack_bytes_answer a codes bytes place ≡ Pack.Refused r → bytes_after a codes bytes place ≡ bytes
+  pub bytes_kept : (r : Refusal) → pack_bytes_answer a codes bytes place ≡ Err r → bytes_after a codes bytes place ≡ bytes
   unfolding bytes_after
   bytes_kept r e = rw e
 
-  pub bytes_written : (n l : ℕ) → pack_bytes_answer a codes bytes place ≡ Pack.Packed n l
+  pub bytes_written : (size : RunSize) → pack_bytes_answer a codes bytes place ≡ Ok size
       → bytes_after a codes bytes place ≡ written_at (byte_of 0 place) (bytes_of (run a codes)) bytes
   unfolding bytes_after
-  bytes_written n l e = rw e
+  bytes_written size e = rw e
 
 -- ---- unpacking
 
@@ -39,16 +38,16 @@ pub read_fits : (order : Order) (a : ℕ) (bytes : List ℕ) → length bytes �
 unfolding run_in
 read_fits order a bytes h = rw (le-leb (length bytes) 2147483647 h)
 
-pub read-large : (order : Order) (a : ℕ) (bytes : List ℕ) → 2147483647 < length bytes → NoRun ≡ run_in order a bytes
+pub read-large : (order : Order) (a : ℕ) (bytes : List ℕ) → 2147483647 < length bytes → None ≡ run_in order a bytes
 unfolding run_in
 read-large order a bytes h = rw (lt-leb (length bytes) 2147483647 h)
 
 module _ (a : ℕ) (bytes : List ℕ) (room : ℕ) where
-  pub unpack_bytes_large : 2147483647 < length bytes → unpack_bytes_answer a bytes room ≡ Unpack.Refused TooLarge
+  pub unpack_bytes_large : 2147483647 < length bytes → unpack_bytes_answer a bytes room ≡ Err TooLarge
   unfolding unpack_bytes_answer
   unpack_bytes_large h = rw (lt-leb (length bytes) 2147483647 h)
 
-  pub unpack_bytes_short : length bytes ≤ 2147483647 → (length bytes % 4 ≡ 0 → ⊥) → unpack_bytes_answer a bytes room ≡ Unpack.Refused TooShort
+  pub unpack_bytes_short : length bytes ≤ 2147483647 → (length bytes % 4 ≡ 0 → ⊥) → unpack_bytes_answer a bytes room ≡ Err TooShort
   unfolding unpack_bytes_answer
   unpack_bytes_short h n = rw (le-leb (length bytes) 2147483647 h, ne_eqb (length bytes % 4) 0 n)
 
@@ -56,20 +55,20 @@ module _ (a : ℕ) (bytes : List ℕ) (room : ℕ) where
   unfolding unpack_bytes_answer
   unpack_bytes_as h n = rw (le-leb (length bytes) 2147483647 h, eq-eqb (length bytes % 4) 0 n)
 
-  pub unpacked-bytes_may : (n l : ℕ) → unpack_bytes_answer a bytes room ≡ Unpack.Unpacked n l
+  pub unpacked-bytes_may : (size : RunSize) → unpack_bytes_answer a bytes room ≡ Ok size
       → (length bytes ≤ 2147483647) × (length bytes % 4 ≡ 0) × MayUnpack a (packets_of bytes) room
   unfolding unpack_bytes_answer
-  unpacked-bytes_may n l e =
-      let h = unpacked-holds (Unpack.Unpacked (length (packets_of bytes)) (length (unpacked (packets_of bytes)))) n l (unpack_bytes_rules a bytes room) e in
+  unpacked-bytes_may size e =
+      let h = answer_holds (unpacked_size (packets_of bytes)) size (unpack_bytes_rules a bytes room) e in
       (leb-true (length bytes) 2147483647 h.0, eqb-true (length bytes % 4) 0 h.1.0, may_unpack a (packets_of bytes) room h.1.1)
 
 -- what the output holds after
 module _ (a : ℕ) (bytes out : List ℕ) where
-  pub codes-bytes_kept : (r : Refusal) → unpack_bytes_answer a bytes (length out) ≡ Unpack.Refused r → codes_after_bytes a bytes out ≡ out
+  pub codes-bytes_kept : (r : Refusal) → unpack_bytes_answer a bytes (length out) ≡ Err r → codes_after_bytes a bytes out ≡ out
   unfolding codes_after_bytes
   codes-bytes_kept r e = rw e
 
-  pub codes-bytes_written : (n l : ℕ) → unpack_bytes_answer a bytes (length out) ≡ Unpack.Unpacked n l
+  pub codes-bytes_written : (size : RunSize) → unpack_bytes_answer a bytes (length out) ≡ Ok size
       → codes_after_bytes a bytes out ≡ written_at 0 (unpacked (packets_of bytes)) out
   unfolding codes_after_bytes
-  codes-bytes_written n l e = rw e
+  codes-bytes_written size e = rw e

@@ -2,14 +2,14 @@
 use mathlib.Core.Path.{◌≡◌, refl, sym, ap, ◌∙◌}
 use mathlib.Core.Bool.{Bool, true, false, cond, ◌&&◌}
 use mathlib.Core.List.{List, [], ◌∷◌, ◌++◌, append_assoc}
-use Prim.Native.Nat.{ℕ, zero, suc, ◌+◌, ◌*◌, ◌-◌, ◌/◌, ◌%◌, ◌^◌, ◌≤◌, ◌<◌}
+use Prim.Native.Nat.{ℕ, ◌+◌, ◌*◌, ◌-◌, ◌/◌, ◌%◌, ◌^◌, ◌≤◌, ◌<◌}
 use native.Mathlib.Nat.{zero-add}
 use native.Mathlib.Omega.{arith}
 use borrow.Author.Tests.{eq-eqb, eqb-true, eqb-false}
-use lib.Bits.{bit_and, and_le_r}
+use lib.Bits.{bit_and}
 use lib.Dec.{eqb}
 use lib.ListN.{length, take, drop, get_or, set, length-append}
-use lib.Seq.{get_or-set_same, get_or-set_other, take-append_seam, take-length}
+use lib.Seq.{get_or-set_same, get_or-set_other, take-append_seam, take-length, get_or-take}
 use Rattle.laws.specs.Digits.{digits}
 use Rattle.laws.specs.Places.{every}
 use Rattle.laws.specs.Writing.{written_at, Begun}
@@ -18,19 +18,18 @@ use Rattle.laws.proofs.Digits.{length_digits, digits_split}
 use Rattle.laws.proofs.Numbers.{digits_low}
 use Rattle.laws.proofs.Places.{every_at}
 use Rattle.laws.proofs.Tests.{bool_cases, both_pass}
-use Rattle.laws.proofs.Writing.{written_twice}
 use Rattle.fields.specs.Written.{little_bytes}
-use Rattle.fields.proofs.Laws.{length-little, word_bytes}
+use Rattle.fields.proofs.Laws.{word_bytes}
 use Rattle.residues.specs.Alphabets.{is_amino}
 use Rattle.fields.specs.Number.{little}
 use Rattle.packets.specs.Runs.{is_five_bit, codes_in, well_formed, unpacked}
-use Rattle.packets.specs.Bytes.{packets_of}
+use Rattle.packets.specs.Bytes.{packets_of, bytes_of}
 use Rattle.packets.specs.Decoded.{codes_from}
 use Rattle.packets.proofs.Codes.{codes_five, codes_two, codes-count, amino_codes}
 use Rattle.packets.proofs.Bytes.{packets-from}
 use Rattle.packets.proofs.Shapes.{well_inner}
 use Rattle.packets.proofs.Behind.{codes-next, codes-append, codes_same, codes-each, codes-least, count_split}
-use Rattle.byte_runs.specs.Blocks.{AllOf, Fronts, bytes_of_four, bytes_of_two, InFour, InTwo, margin, spare}
+use Rattle.byte_runs.specs.Blocks.{AllOf, Fronts, FrontOfFour, bytes_of_two, margin, spare}
 
 -- ---- numbers as their bytes
 
@@ -59,7 +58,7 @@ last_two p =
     let e : p / 1 ≡ p = omega arith in
     two_little (p / 32 % 32) (p % 32) (omega arith) (omega arith) ∙ rw e
 
-pub six_parts : (p four two : ℕ) → little_bytes 4 four ≡ digits 5 4 (p / 1024) → little_bytes 2 two ≡ digits 5 2 p → bytes_of_two four two ≡ digits 5 6 p
+pub six_parts : (p four two : ℕ) → little_bytes 4 four ≡ digits 5 4 (p / 1024) → little_bytes 2 two ≡ digits 5 2 p → little_bytes 4 four ++ little_bytes 2 two ≡ digits 5 6 p
 six_parts p four two e f = ap (λ (l : List ℕ). l ++ little_bytes 2 two) e ∙ (ap (λ (l : List ℕ). digits 5 4 (p / 1024) ++ l) f ∙ sym (digits_split 5 4 2 p))
 
 -- ---- four 2-bit codes
@@ -92,10 +91,11 @@ four_bases b h =
     let e₃ : n / 256 / 256 / 256 % 256 ≡ b / 1 % 4 = eqb-true _ _ r.1 in
     rw (e₀, e₁, e₂, e₃)
 
-pub bases-small : (x y : ℕ) → bit_and x 0x00030003 + bit_and y 0x00030003 * 256 < 4294967296
-bases-small x y = omega (arith, and_le_r x 0x00030003, and_le_r y 0x00030003)
-
 -- ---- the codes of a packet at the front of its numbers
+
+bytes_four : (a b c d : ℕ) → bytes_of (a ∷ b ∷ c ∷ d ∷ []) ≡ little_bytes 4 a ++ (little_bytes 4 b ++ (little_bytes 4 c ++ little_bytes 4 d))
+unfolding bytes_of
+bytes_four a b c d = refl
 
 -- four lists one behind another
 joined : (K L M N A B C D : List ℕ) → K ≡ A → L ≡ B → M ≡ C → N ≡ D → K ++ (L ++ (M ++ N)) ≡ ((A ++ B) ++ C) ++ D
@@ -103,7 +103,7 @@ joined K L M N A B C D ka lb mc nd =
     rw (ka, lb, mc, nd) (sym (append_assoc A B (C ++ D)) ∙ sym (append_assoc (A ++ B) C D))
 
 pub two_front : (p a b c d : ℕ) → little_bytes 4 a ≡ digits 2 4 (p / 4194304 % 256) → little_bytes 4 b ≡ digits 2 4 (p / 16384 % 256)
-    → little_bytes 4 c ≡ digits 2 4 (p / 64 % 256) → little_bytes 4 d ≡ digits 2 4 (p % 64 * 4) → Fronts (digits 2 15 p) (bytes_of_four a b c d)
+    → little_bytes 4 c ≡ digits 2 4 (p / 64 % 256) → little_bytes 4 d ≡ digits 2 4 (p % 64 * 4) → Fronts (digits 2 15 p) (bytes_of (a ∷ b ∷ c ∷ d ∷ []))
 two_front p a b c d ea eb ec ed =
     let q : p / 16384 / 256 ≡ p / 4194304 = omega arith in
     let s : p / 64 / 256 ≡ p / 16384 = omega arith in
@@ -119,56 +119,51 @@ two_front p a b c d ea eb ec ed =
     let twelve : (A ++ B) ++ C ≡ digits 2 12 (p / 64) =
     ap (λ (l : List ℕ). l ++ C) eight ∙ ap (λ (n : ℕ). digits 2 8 n ++ C) (sym s) ∙ sym (digits_split 2 8 4 (p / 64)) in
     let all : ((A ++ B) ++ C) ++ D ≡ digits 2 15 p = ap (λ (l : List ℕ). l ++ D) twelve ∙ sym (digits_split 2 12 3 p) in
-    let whole : bytes_of_four a b c d ≡ digits 2 15 p ++ z =
-    joined (little_bytes 4 a) (little_bytes 4 b) (little_bytes 4 c) (little_bytes 4 d) A B C (D ++ z) (ea ∙ digits_low 2 4 (p / 4194304))
+    let whole : bytes_of (a ∷ b ∷ c ∷ d ∷ []) ≡ digits 2 15 p ++ z =
+    bytes_four a b c d
+    ∙ joined (little_bytes 4 a) (little_bytes 4 b) (little_bytes 4 c) (little_bytes 4 d) A B C (D ++ z) (ea ∙ digits_low 2 4 (p / 4194304))
     (eb ∙ digits_low 2 4 (p / 16384)) (ec ∙ digits_low 2 4 (p / 64)) last
     ∙ sym (append_assoc ((A ++ B) ++ C) D z)
     ∙ ap (λ (l : List ℕ). l ++ z) all in
     ap (take (length (digits 2 15 p))) whole ∙ take-append_seam (digits 2 15 p) z
 
-pub six_front : (p a b c d : ℕ) → little_bytes 4 a ≡ digits 5 4 (p / 1024) → little_bytes 2 b ≡ digits 5 2 p → Fronts (digits 5 6 p) (bytes_of_four a b c d)
-six_front p a b c d ea eb =
+six_front : (cs : List ℕ) (a b c d : ℕ) → little_bytes 4 a ++ little_bytes 2 b ≡ cs → Fronts cs (bytes_of (a ∷ b ∷ c ∷ d ∷ []))
+six_front cs a b c d e =
     let z = little_bytes 2 (b / 256 / 256) ++ (little_bytes 4 c ++ little_bytes 4 d) in
-    let whole : bytes_of_four a b c d ≡ digits 5 6 p ++ z =
-    sym (append_assoc (little_bytes 4 a) (little_bytes 2 b) z) ∙ ap (λ (l : List ℕ). l ++ z) (six_parts p a b ea eb) in
-    ap (take (length (digits 5 6 p))) whole ∙ take-append_seam (digits 5 6 p) z
+    let whole : bytes_of (a ∷ b ∷ c ∷ d ∷ []) ≡ cs ++ z =
+    bytes_four a b c d ∙ sym (append_assoc (little_bytes 4 a) (little_bytes 2 b) z) ∙ ap (λ (l : List ℕ). l ++ z) e in
+    ap (take (length cs)) whole ∙ take-append_seam cs z
 
--- a packet of either kind, of which one number or another was picked
-pub mixed_front : (p a b c d a' b' : ℕ) → little_bytes 4 a ≡ digits 5 4 (p / 1024) → little_bytes 2 b ≡ digits 5 2 p → little_bytes 4 a' ≡ digits 2 4
-    (p / 4194304 % 256)
-    → little_bytes 4 b' ≡ digits 2 4 (p / 16384 % 256) → little_bytes 4 c ≡ digits 2 4 (p / 64 % 256) → little_bytes 4 d ≡ digits 2 4 (p % 64 * 4)
-    → Fronts (codes_in p) (bytes_of_four (cond (is_five_bit p) a a') (cond (is_five_bit p) b b') c d)
-mixed_front p a b c d a' b' ea eb ea' eb' ec ed =
+-- the four numbers of a list of four
+four_are : (l : List ℕ) → length l ≡ 4 → get_or l 0 0 ∷ get_or l 1 0 ∷ get_or l 2 0 ∷ get_or l 3 0 ∷ [] ≡ l
+four_are [] e = absurd (let z : ⊥ = omega arith in z)
+four_are (a ∷ []) e = absurd (let z : ⊥ = omega arith in z)
+four_are (a ∷ b ∷ []) e = absurd (let z : ⊥ = omega arith in z)
+four_are (a ∷ b ∷ c ∷ []) e = absurd (let z : ⊥ = omega arith in z)
+four_are (a ∷ b ∷ c ∷ d ∷ []) e = refl
+four_are (a ∷ b ∷ c ∷ d ∷ f ∷ l) e = absurd (let z : ⊥ = omega arith in z)
+
+-- a packet of either kind, of which the numbers of one way or the other were picked
+pub any_front : (p : ℕ) (six fifteen : List ℕ) → bytes_of_two six ≡ digits 5 6 p → FrontOfFour (digits 2 15 p) fifteen
+    → Fronts (codes_in p) (bytes_of (cond (is_five_bit p) (get_or six 0 0) (get_or fifteen 0 0) ∷ cond (is_five_bit p) (get_or six 1 0) (get_or fifteen 1 0)
+    ∷ get_or fifteen 2 0 ∷ get_or fifteen 3 0 ∷ []))
+any_front p six fifteen s f =
     bool_cases (is_five_bit p)
-    (λ t. rw (codes_five p t, t) (six_front p a b c d ea eb))
-    (λ t. rw (codes_two p t, t) (two_front p a' b' c d ea' eb' ec ed))
+    (λ t. rw (codes_five p t, t) (six_front (digits 5 6 p) (get_or six 0 0) (get_or six 1 0) (get_or fifteen 2 0) (get_or fifteen 3 0) s))
+    (λ t. rw (codes_two p t, t, four_are fifteen f.four) f.front)
 
 -- ---- one packet more
 
--- four lists, and the next number set in each
-set_more : (R : ℕ → ℕ → ℕ → ℕ → ℕ → Type 0) (n a b c d : ℕ) (ws xs ys zs : List ℕ) → n < length ws → n < length xs → n < length ys → n < length zs
-    → ((j : ℕ) → j < n → R j (get_or ws j 0) (get_or xs j 0) (get_or ys j 0) (get_or zs j 0)) → R n a b c d → (j : ℕ) → j < n + 1
-    → R j (get_or (set ws n a) j 0) (get_or (set xs n b) j 0) (get_or (set ys n c) j 0) (get_or (set zs n d) j 0)
-set_more R n a b c d ws xs ys zs hw hx hy hz so_far here j h =
+-- two lists have the codes of the first n packets, four and two of each
+abbrev pub InTwo : List ℕ → ℕ → List ℕ → List ℕ → Type 0
+InTwo packets n fours twos = (j : ℕ) → j < n → bytes_of_two (get_or fours j 0 ∷ get_or twos j 0 ∷ []) ≡ codes_in (get_or packets j 0)
+
+pub two_more : (ps : List ℕ) (n p : ℕ) → p ≡ get_or ps n 0 → (a b : ℕ) (ws xs : List ℕ) → InTwo ps n ws xs → n < length ws → n < length xs
+    → bytes_of_two (a ∷ b ∷ []) ≡ codes_in p → InTwo ps (n + 1) (set ws n a) (set xs n b)
+two_more ps n p l a b ws xs so_far hw hx here j h =
     bool_cases (eqb j n)
-    (λ t.
-    let q : j ≡ n = eqb-true j n t in
-    rw (q, get_or-set_same ws n a 0 hw, get_or-set_same xs n b 0 hx, get_or-set_same ys n c 0 hy, get_or-set_same zs n d 0 hz) here)
-    (λ t.
-    let q = eqb-false j n t in
-    rw (get_or-set_other ws n j a 0 q, get_or-set_other xs n j b 0 q, get_or-set_other ys n j c 0 q, get_or-set_other zs n j d 0 q) (so_far j (omega arith)))
-
--- the packet at place n is p
-module _ (ps : List ℕ) (n p : ℕ) (l : p ≡ get_or ps n 0) where
-  pub four_more : (a b c d : ℕ) (ws xs ys zs : List ℕ) → InFour ps n ws xs ys zs → n < length ws → n < length xs → n < length ys → n < length zs
-      → Fronts (codes_in p) (bytes_of_four a b c d) → InFour ps (n + 1) (set ws n a) (set xs n b) (set ys n c) (set zs n d)
-  four_more a b c d ws xs ys zs so_far hw hx hy hz f =
-      set_more (λ (j w x y z : ℕ). Fronts (codes_in (get_or ps j 0)) (bytes_of_four w x y z)) n a b c d ws xs ys zs hw hx hy hz so_far (rw (← l) f)
-
-  pub two_more : (a b : ℕ) (ws xs : List ℕ) → InTwo ps n ws xs → n < length ws → n < length xs → bytes_of_two a b ≡ codes_in p
-      → InTwo ps (n + 1) (set ws n a) (set xs n b)
-  two_more a b ws xs so_far hw hx e =
-      set_more (λ (j w x y z : ℕ). bytes_of_two w x ≡ codes_in (get_or ps j 0)) n a b 0 0 ws xs ws xs hw hx hw hx so_far (rw (← l) e)
+    (λ t. let q : j ≡ n = eqb-true j n t in rw (q, get_or-set_same ws n a 0 hw, get_or-set_same xs n b 0 hx, ← l) here)
+    (λ t. let q = eqb-false j n t in rw (get_or-set_other ws n j a 0 q, get_or-set_other xs n j b 0 q) (so_far j (omega arith)))
 
 -- the codes of the first packets, and of one more
 pub first_next : (ps : List ℕ) (n : ℕ) → codes_from ps 0 (n + 1) ≡ codes_from ps 0 n ++ codes_in (get_or ps n 0)
@@ -208,36 +203,25 @@ twos-count ps m n h l =
     (λ k i. ap (λ (x : ℕ). length (codes_in (get_or ps x 0))) (zero-add k) ∙ ap length (codes_two (get_or ps k 0) (h k (omega arith)))
     ∙ length_digits 2 15 (get_or ps k 0))
 
-pub length_four : (a b c d : ℕ) → length (bytes_of_four a b c d) ≡ 16
-length_four a b c d = refl
-
-pub length_two : (a b : ℕ) → length (bytes_of_two a b) ≡ 6
-length_two a b = refl
-
 pub front-is : (cs zs : List ℕ) → zs ≡ cs → Fronts cs zs
 front-is cs zs e = ap (take (length cs)) e ∙ take-length cs
-
--- four lists of four written one behind another
-pub fours_put : (at : ℕ) (A B C D out : List ℕ) → length A ≡ 4 → length B ≡ 4 → length C ≡ 4 → length D ≡ 4 → at + 16 ≤ length out
-    → written_at (at + 12) D (written_at (at + 8) C (written_at (at + 4) B (written_at at A out))) ≡ written_at at (A ++ (B ++ (C ++ D))) out
-fours_put at A B C D out la lb lc ld room =
-    let n : length (A ++ B) ≡ 8 = length-append A B ∙ omega arith in
-    let m : length ((A ++ B) ++ C) ≡ 12 = length-append (A ++ B) C ∙ omega arith in
-    let two : written_at (at + 4) B (written_at at A out) ≡ written_at at (A ++ B) out = rw (← la) (written_twice at A B out (omega arith)) in
-    let three : written_at (at + 8) C (written_at at (A ++ B) out) ≡ written_at at ((A ++ B) ++ C) out =
-    rw (← n) (written_twice at (A ++ B) C out (omega arith)) in
-    let all : written_at (at + 12) D (written_at at ((A ++ B) ++ C) out) ≡ written_at at (((A ++ B) ++ C) ++ D) out =
-    rw (← m) (written_twice at ((A ++ B) ++ C) D out (omega arith)) in
-    ap (λ (l : List ℕ). written_at (at + 12) D (written_at (at + 8) C l)) two
-    ∙ ap (λ (l : List ℕ). written_at (at + 12) D l) three
-    ∙ all
-    ∙ ap (λ (l : List ℕ). written_at at l out) (sym (joined A B C D A B C D refl refl refl refl))
 
 -- a packet with six codes has bit 30
 pub six_codes : (p : ℕ) → length (codes_in p) ≡ 6 → is_five_bit p ≡ true
 six_codes p e = eq-eqb (p / 2 ^ 30 % 2) 1 (omega (arith, codes-count p))
 
 -- ---- a block of a run
+
+-- the first sixteen packets, by themselves
+module _ (ps qs : List ℕ) (e : qs ≡ take 16 ps) where
+  taken : (k : ℕ) → k < 16 → get_or qs k 0 ≡ get_or ps k 0
+  taken k h = ap (λ (l : List ℕ). get_or l k 0) e ∙ get_or-take 16 ps k 0 h
+
+  pub taken_codes : codes_from qs 0 16 ≡ codes_from ps 0 16
+  taken_codes = codes_same qs ps 0 0 16 (λ k h. rw (zero-add k) (taken k h))
+
+  pub taken_all : (five : Bool) → AllOf five ps 16 → AllOf five qs 16
+  taken_all five h k i = ap is_five_bit (taken k i) ∙ h k i
 
 -- block i of the bytes
 module _ (bytes : List ℕ) (i start : ℕ) (here : start ≡ 4 * (16 * i)) (room : 16 * i + 16 ≤ length bytes / 4) where

@@ -11,7 +11,8 @@ use Rattle.packets.specs.Packing.{run}
 use Rattle.packets.specs.Bytes.{bytes_of}
 use Rattle.packets.proofs.Bytes.{length-bytes, bytes-append, bytes-none}
 use Rattle.runs.specs.Bodies.{Item, body}
-use Rattle.runs.specs.declared.PackAnswer.TheVariants.{Packed, Refused}
+use Rattle.std.specs.Prelude.{Ok, Err}
+use Rattle.runs.specs.declared.RunSize.{RunSize}
 use Rattle.runs.proofs.Bodies.{packed_means, written_behind, length-behind, calls_add}
 use Rattle.byte_runs.specs.Bodies.{ByteBuffer, byte_call_answer, after_byte_call, after_byte_calls, bytes_packed_of, HoldsBytes}
 use Rattle.byte_runs.proofs.Answers.{bytes_kept, bytes_written}
@@ -21,11 +22,11 @@ none_held first = record { within = omega arith; place_is = refl; bytes_are = rw
 
 module _ (first : List ℕ) (short : length first < 18446744073709551616) where
   -- a call that packs puts its run's bytes at the place reached
-  pub byte_call_packs : (ps : List ℕ) (b : ByteBuffer) (s : Item) (n l : ℕ) → HoldsBytes first ps b → byte_call_answer b s ≡ Packed n l
+  pub byte_call_packs : (ps : List ℕ) (b : ByteBuffer) (s : Item) (size : RunSize) → HoldsBytes first ps b → byte_call_answer b s ≡ Ok size
       → HoldsBytes first (ps ++ run s.alphabet s.codes) (after_byte_call b s)
-  byte_call_packs ps b s n l h e =
+  byte_call_packs ps b s size h e =
       let R = run s.alphabet s.codes in
-      let m = packed_means s.alphabet s.codes (length b.bytes / 4) b.place n l e in
+      let m = packed_means s.alphabet s.codes (length b.bytes / 4) b.place size e in
       let lb = length-bytes ps in
       let lr = length-bytes R in
       let la = length-append ps R in
@@ -37,11 +38,11 @@ module _ (first : List ℕ) (short : length first < 18446744073709551616) where
         within = omega (arith, h.place_is);
         place_is = rw e (omega (arith, h.place_is));
         bytes_are =
-            bytes_written s.alphabet s.codes b.bytes b.place n l e
+            bytes_written s.alphabet s.codes b.bytes b.place size e
             ∙ rw (at, end, bytes-append) (written_behind first (bytes_of ps) (bytes_of R) b.bytes are);
       }
 
-  byte_call_refuses : (ps : List ℕ) (b : ByteBuffer) (s : Item) (r : Refusal) → HoldsBytes first ps b → byte_call_answer b s ≡ Refused r
+  byte_call_refuses : (ps : List ℕ) (b : ByteBuffer) (s : Item) (r : Refusal) → HoldsBytes first ps b → byte_call_answer b s ≡ Err r
       → HoldsBytes first ps (after_byte_call b s)
   byte_call_refuses ps b s r h e = record {
     within = h.within;

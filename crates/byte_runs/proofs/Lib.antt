@@ -8,3 +8,4 @@ pub mod Blocks
 pub mod Answers
 pub mod Rules
 pub mod Bodies
+pub mod Made

@@ -1,24 +1,20 @@
 -- Packets written as bytes one behind another, from the start of an output. Assumes nothing.
-use mathlib.Core.Path.{◌≡◌, refl, sym, ap, ◌∙◌}
-use mathlib.Core.List.{List, [], ◌∷◌, ◌++◌, append_assoc}
-use Prim.Native.Nat.{ℕ, zero, suc, ◌+◌, ◌*◌, ◌-◌, ◌≤◌, ◌<◌, min}
+use mathlib.Core.Path.{◌≡◌, sym, ap, ◌∙◌}
+use mathlib.Core.List.{List, [], ◌∷◌, ◌++◌, append_assoc, append-nil}
+use Prim.Native.Nat.{ℕ, zero, suc, ◌+◌, ◌*◌, ◌-◌, ◌≤◌, min}
 use native.Mathlib.Nat.{zero-add, mul-add, mul-zero, add-zero}
 use native.Mathlib.Omega.{arith}
-use lib.ListN.{length, take, drop, set, length-append, length-take, length-drop, take-append-drop, drop_of_length-le}
+use lib.ListN.{length, take, drop, length-append, length-take, length-drop, take-append-drop}
 use lib.Seq.{length-take-le, take-add, take_at, take-append_seam, take-take, take_all, drop_at, drop-drop, drop-length}
 use Rattle.laws.specs.Writing.{written_at}
 use borrow.Rule.Slice.PartMut.{mid_of, post_of, put_mid, Post-is, mid_len}
 use Rattle.laws.proofs.Parts.{part_rest}
 use Rattle.laws.proofs.Places.{length-list_to}
-use Rattle.laws.proofs.Storing.{store_none, store_front, written_start}
+use Rattle.laws.proofs.Storing.{store_none, written_start}
 use Rattle.laws.proofs.Writing.{length_written, rest_part, written_over, written_twice}
 use Rattle.packets.specs.Bytes.{bytes_of}
 use Rattle.packets.proofs.Bytes.{length-bytes, bytes-append, bytes-none}
 use Rattle.byte_runs.specs.Packed.{parts_by}
-
-append-none : (xs : List ℕ) → xs ++ [] ≡ xs
-append-none [] = refl
-append-none (x ∷ xs) = ap (λ (l : List ℕ). x ∷ l) (append-none xs)
 
 -- ---- packets one behind another
 
@@ -79,7 +75,7 @@ part_put a xs ys new e h =
     e ∙ (ap (λ (l : List ℕ). written_at 0 new l) (part_rest xs a) ∙ (written_start new (drop a xs) ∙ ap (λ (l : List ℕ). new ++ l) (drop-drop
     (length new) a xs))) in
     ap (λ (l : List ℕ). take a xs ++ (ys ++ l)) b
-    ∙ (ap (λ (l : List ℕ). take a xs ++ l) (append-none ys ∙ c) ∙ sym (append_assoc (take a xs) new (drop (a + length new) xs)))
+    ∙ (ap (λ (l : List ℕ). take a xs ++ l) (append-nil ys ∙ c) ∙ sym (append_assoc (take a xs) new (drop (a + length new) xs)))
 
 -- writing packets keeps the length
 pub put_length : (R d out : List ℕ) (n : ℕ) → out ≡ written_at 0 (bytes_of (take n R)) d → 4 * n ≤ length d → length out ≡ length d
@@ -95,10 +91,6 @@ put_none R d = store_none (λ (k : ℕ). k) 0 d ∙ ap (λ (l : List ℕ). writt
 pub put_all : (R d out : List ℕ) (n : ℕ) → length R ≤ n → out ≡ written_at 0 (bytes_of (take n R)) d → out ≡ written_at 0 (bytes_of R) d
 put_all R d out n h e = e ∙ ap (λ (l : List ℕ). written_at 0 (bytes_of l) d) (take_all n R h)
 
--- a block brings the count of packets on
-pub block_less : (i k n : ℕ) → k ≡ min i (n - 16) → i < n → 16 ≤ n → n - (k + 16) < n - i
-block_less i k n e h l = omega arith
-
 -- ---- packets of parts of one size
 
 module _ (f : List ℕ → ℕ) (s : ℕ) where
@@ -106,27 +98,9 @@ module _ (f : List ℕ → ℕ) (s : ℕ) where
   unfolding parts_by
   length_parts cs n = length-list_to (λ k. f (drop (s * k) cs)) n
 
-  -- one packet more, in an array of packets
-  pub parts_none : (cs d : List ℕ) → d ≡ written_at 0 (parts_by f s cs 0) d
-  unfolding parts_by
-  parts_none cs d = store_none (λ k. f (drop (s * k) cs)) 0 d
-
   pub bytes-start : (cs d : List ℕ) → d ≡ written_at 0 (bytes_of (parts_by f s cs 0)) d
   unfolding parts_by
   bytes-start cs d = put_none [] d
-
-  pub parts_more : (cs : List ℕ) (n p : ℕ) (d out : List ℕ) → out ≡ written_at 0 (parts_by f s cs n) d → n < length d → p ≡ f (drop (s * n) cs)
-      → set out n p ≡ written_at 0 (parts_by f s cs (n + 1)) d
-  unfolding parts_by
-  parts_more cs n p d out so_far h e =
-      ap (λ (l : List ℕ). set l n p) so_far ∙ store_front (λ k. f (drop (s * k) cs)) n p d h e
-
-  pub parts_whole : (cs : List ℕ) (n i : ℕ) (d out : List ℕ) → out ≡ written_at 0 (parts_by f s cs i) d → i ≡ n → length d ≡ n → out ≡ parts_by f s cs n
-  parts_whole cs n i d out so_far q h =
-      let R = parts_by f s cs n in
-      let k : length d ≤ 0 + length R = omega (arith, length_parts cs n) in
-      let e : drop (0 + length R) d ≡ [] = drop_of_length-le d k in
-      so_far ∙ (ap (λ (x : ℕ). written_at 0 (parts_by f s cs x) d) q ∙ (ap (λ (l : List ℕ). R ++ l) e ∙ append-none R))
 
   pub parts_one : (cs : List ℕ) → parts_by f s cs 1 ≡ f cs ∷ []
   unfolding parts_by
@@ -134,7 +108,7 @@ module _ (f : List ℕ → ℕ) (s : ℕ) where
 
   parts_append : (cs : List ℕ) (i m : ℕ) → parts_by f s cs (i + m) ≡ parts_by f s cs i ++ parts_by f s (drop (s * i) cs) m
   unfolding parts_by
-  parts_append cs i zero = rw (add-zero i) (sym (append-none (parts_by f s cs i)))
+  parts_append cs i zero = rw (add-zero i) (sym (append-nil (parts_by f s cs i)))
   parts_append cs i (suc m) =
       let n : i + suc m ≡ suc (i + m) = omega arith in
       let g : drop (s * (i + m)) cs ≡ drop (s * m) (drop (s * i) cs) = ap (λ (k : ℕ). drop k cs) (mul-add s i m) ∙ sym (drop-drop (s * m) (s * i) cs) in
@@ -142,10 +116,6 @@ module _ (f : List ℕ → ℕ) (s : ℕ) where
       ∙ (ap (λ (l : List ℕ). l ++ (f (drop (s * (i + m)) cs) ∷ [])) (parts_append cs i m)
       ∙ (append_assoc (parts_by f s cs i) (parts_by f s (drop (s * i) cs) m) (f (drop (s * (i + m)) cs) ∷ [])
       ∙ ap (λ (l : List ℕ). parts_by f s cs i ++ (parts_by f s (drop (s * i) cs) m ++ (f l ∷ []))) g))
-
-  pub parts_length : (cs : List ℕ) (n : ℕ) (d out : List ℕ) → out ≡ written_at 0 (bytes_of (parts_by f s cs n)) d → 4 * n ≤ length d → length out ≡ length d
-  parts_length cs n d out e h =
-      ap length e ∙ length_written 0 (bytes_of (parts_by f s cs n)) d (omega (arith, length-bytes (parts_by f s cs n), length_parts cs n))
 
   -- m more behind n, made of a part of the codes, and written at the start of a part of the output
   pub parts_behind : (cs : List ℕ) (n m : ℕ) (d out ps ys : List ℕ) (at : ℕ) → out ≡ written_at 0 (bytes_of (parts_by f s cs n)) d → 4 * (n + m) ≤ length d

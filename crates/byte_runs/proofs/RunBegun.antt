@@ -2,8 +2,9 @@
 use mathlib.Core.Path.{◌≡◌, refl, sym, ap, subst, ◌∙◌}
 use mathlib.Core.Bool.{true, false}
 use mathlib.Core.List.{List, [], ◌∷◌, ◌++◌}
-use Prim.Native.Nat.{ℕ, zero, suc, pred, ◌+◌, ◌*◌, ◌-◌, ◌/◌, ◌≤◌, ◌<◌}
+use Prim.Native.Nat.{ℕ, zero, suc, pred, ◌+◌, ◌*◌, ◌-◌, ◌/◌, ◌^◌, ◌≤◌, ◌<◌}
 use native.Mathlib.Omega.{arith}
+use borrow.Author.Tests.{eqb-true}
 use borrow.Rule.Slice.PartMut.{mid_of, put_mid}
 use lib.ListN.{length, take, drop, length-drop, take-append-drop}
 use lib.Seq.{drop-drop, length-take-le}
@@ -13,7 +14,7 @@ use Rattle.laws.proofs.Parts.{part_rest}
 use Rattle.laws.proofs.Writing.{length_written, written_twice}
 use Rattle.laws.proofs.Places.{every_at}
 use Rattle.residues.specs.Alphabets.{is_amino, valid_codes}
-use Rattle.packets.specs.declared.TwoBit.TheVariants.{Packet, NotPlain}
+use Rattle.std.specs.Prelude.{Some, None}
 use Rattle.packets.specs.Packing.{plain, is_two_bit, size_of, packet_of, two_bit_part, next_two_bit, five_bit_part, size, packet, later, run}
 use Rattle.packets.specs.Positions.{byte_of}
 use Rattle.packets.specs.Bytes.{bytes_of}
@@ -112,14 +113,14 @@ module _ (cs d : List ℕ) (count at : ℕ) (out : List ℕ) (b : RunBegun cs d 
   begun-length = omega (arith, left, b.1)
 
   -- a 2-bit packet, and a 5-bit packet, by what is found next
-  pub begun_two : (p : ℕ) (new : List ℕ) → next_two_bit (mid_of at (length cs - at) cs) ≡ Packet p → 15 < length cs - at
+  pub begun_two : (p : ℕ) (new : List ℕ) → next_two_bit (mid_of at (length cs - at) cs) ≡ Some p → 15 < length cs - at
       → new ≡ written_at (4 * count) (bytes_of (p ∷ [])) out → RunBegun cs d (count + 1) (at + 15) new
   begun_two p new e h =
       let f = found_two (drop at cs) p (ap next_two_bit (sym (part_rest cs at)) ∙ e) in
       begun_more (p ∷ []) 15 (two_goes 1 cs at (plain_two 1 (drop at cs) refl ∙ f.0) h ∙ ap (λ (x : ℕ). x ∷ run 1 (drop (at + 15) cs)) (sym f.1))
       (omega arith) new
 
-  pub begun_five : (p : ℕ) (new : List ℕ) → next_two_bit (mid_of at (length cs - at) cs) ≡ NotPlain → p ≡ five_bit_part (drop at cs) → 6 < length cs - at
+  pub begun_five : (p : ℕ) (new : List ℕ) → next_two_bit (mid_of at (length cs - at) cs) ≡ None → p ≡ five_bit_part (drop at cs) → 6 < length cs - at
       → new ≡ written_at (4 * count) (bytes_of (p ∷ [])) out → RunBegun cs d (count + 1) (at + 6) new
   begun_five p new e q h =
       let f = missed_two (drop at cs) (ap next_two_bit (sym (part_rest cs at)) ∙ e) in
@@ -157,15 +158,17 @@ module _ (cs d : List ℕ) (count at : ℕ) (out : List ℕ) (b : RunBegun cs d 
 
 -- ---- a run that is written at the start of a part of the output
 
-module _ (R S d : List ℕ) (place at : ℕ) (e : R ≡ S) (room : place + length S ≤ length d / 4) (q : at ≡ byte_of 0 place) where
-  pub placed_start : at ≤ length d
-  placed_start = omega arith
+-- an amino run is packed as alphabet 3, and every other as alphabet 1
+pub run_three : (a : ℕ) → is_amino a ≡ true → (cs : List ℕ) → run 3 cs ≡ run a cs
+run_three a t cs = ap (λ (x : ℕ). run x cs) (sym (eqb-true a 3 t))
 
+module _ (R S d : List ℕ) (place at : ℕ) (e : R ≡ S) (room : place + length S ≤ length d / 4) (q : at ≡ 4 * place) where
   pub placed_room : length R ≤ length (mid_of at (length d - at) d) / 4
   placed_room = omega (arith, ap length e, part_long at (4 * length S) d (omega arith))
 
-  pub placed : (last : List ℕ) → last ≡ written_at 0 (bytes_of R) (mid_of at (length d - at) d) → put_mid at (length d - at) d last ≡ written_at
-      (byte_of 0 place) (bytes_of S) d
-  placed last w =
-      part_put at d last (bytes_of R) w placed_start
-      ∙ (ap (λ (n : ℕ). written_at n (bytes_of R) d) q ∙ ap (λ (x : List ℕ). written_at (byte_of 0 place) (bytes_of x) d) e)
+  pub placed : (last : List ℕ) → length d < 2 ^ 64 → last ≡ written_at 0 (bytes_of R) (mid_of at (length d - at) d)
+      → put_mid at (length d - at) d last ≡ written_at (byte_of 0 place) (bytes_of S) d
+  placed last h w =
+      let p : at ≡ byte_of 0 place = omega arith in
+      part_put at d last (bytes_of R) w (omega arith)
+      ∙ (ap (λ (n : ℕ). written_at n (bytes_of R) d) p ∙ ap (λ (x : List ℕ). written_at (byte_of 0 place) (bytes_of x) d) e)

@@ -2,7 +2,7 @@
 use mathlib.Core.Path.{◌≡◌, sym, ap, ◌∙◌}
 use mathlib.Core.Bool.{true}
 use mathlib.Core.List.{List, [], ◌∷◌, ◌++◌}
-use Prim.Native.Nat.{ℕ, zero, suc, ◌+◌, ◌*◌, ◌-◌, ◌/◌, ◌%◌, ◌^◌, ◌≤◌, ◌<◌}
+use Prim.Native.Nat.{ℕ, zero, suc, ◌*◌, ◌/◌, ◌%◌, ◌^◌, ◌<◌}
 use native.Mathlib.Omega.{arith}
 use lib.ListN.{length, get_or}
 use Rattle.laws.specs.Digits.{all_below}
@@ -13,13 +13,8 @@ use Rattle.fields.specs.Number.{little, number, bytes_at}
 use Rattle.fields.specs.Written.{little_bytes}
 use Rattle.fields.proofs.Laws.{unsigned_bytes}
 use Rattle.fields.proofs.Turned.{little_back}
-use Rattle.packets.specs.Positions.{byte_of}
 use Rattle.packets.specs.Bytes.{packets_by, packets_of, bytes_of}
 use Rattle.packets.proofs.Bytes.{packets_at, bytes-cons, bytes-none, packets-bytes}
-
--- a place that fits is four times the packet's
-pub byte_is : (place bound : ℕ) → place < bound / 4 → bound ≤ 18446744073709551615 → byte_of 0 place ≡ 4 * place
-byte_is place bound h k = omega arith
 
 -- the packet at a place by the word of its bytes, in either byte order
 pub word_packet : (order : Order) (bytes : List ℕ) (place w : ℕ) → place < length bytes / 4 → little_bytes 4 w ≡ bytes_at 4 bytes (4 * place) 0
@@ -28,11 +23,9 @@ word_packet order bytes place w h e =
     ap (number order) e ∙ (sym (unsigned_bytes order 4 bytes (4 * place)) ∙ sym (packets_at order bytes place h))
 
 -- a packet's bytes, written at its place
-pub packet_put : (p place at bound : ℕ) (out : List ℕ) → place < bound / 4 → bound ≤ 18446744073709551615 → at ≡ byte_of 0 place
-    → written_at at (little_bytes 4 p) out ≡ written_at (4 * place) (bytes_of (p ∷ [])) out
-packet_put p place at bound out h k q =
-    ap (λ (n : ℕ). written_at n (little_bytes 4 p) out) (q ∙ byte_is place bound h k)
-    ∙ ap (λ (l : List ℕ). written_at (4 * place) l out) (sym (bytes-cons p [] ∙ ap (λ (l : List ℕ). little_bytes 4 p ++ l) bytes-none))
+pub packet_put : (p place at : ℕ) (out : List ℕ) → at ≡ 4 * place → written_at at (little_bytes 4 p) out ≡ written_at (4 * place) (bytes_of (p ∷ [])) out
+packet_put p place at out q =
+    rw q (ap (λ (l : List ℕ). written_at (4 * place) l out) (sym (bytes-cons p [] ∙ ap (λ (l : List ℕ). little_bytes 4 p ++ l) bytes-none)))
 
 -- ---- whole bytes are those of the packets that they stand for
 

@@ -1,6 +1,6 @@
 -- 2-bit packets of codes that are read four at once, and codes that are all below 4. Assumes nothing.
 use mathlib.Core.Path.{◌≡◌, refl, sym, ap, ◌∙◌}
-use mathlib.Core.Bool.{Bool, true, false, ◌&&◌}
+use mathlib.Core.Bool.{Bool, true, ◌&&◌, and-true, and_assoc}
 use mathlib.Core.List.{List, [], ◌∷◌}
 use Prim.Native.Nat.{ℕ, zero, suc, ◌+◌, ◌*◌, ◌-◌, ◌/◌, ◌%◌, ◌^◌, ◌≤◌, ◌<◌}
 use native.Mathlib.Numerals.{add-one}
@@ -74,35 +74,26 @@ shifted_moved n h =
     let e : spread v ≡ n = spread_back a b c d h.0 h.1 h.2 h.3 ∙ sym (bytes-sum n) in
     rw e at (eqb-true (Pairs (spread v) % 65536 * 16 + Pairs (spread v) / 65536) (moved (spread v)) (every_at alike 256 v k all_alike))
 
--- ---- fifteen codes from a place on
+-- ---- fifteen codes
 
-four_drop : (cs : List ℕ) (at i j : ℕ) → j ≡ at + i → four_from cs j ≡ four_from (drop at cs) i
-four_drop cs at i j e =
-    let f : (k : ℕ) → get_or cs (at + i + k) 0 ≡ get_or (drop at cs) (i + k) 0 = λ k. ap (λ (n : ℕ). get_or cs n 0) (let z : at + i + k ≡ at +
-    (i + k) = omega arith in z) ∙ sym (get_or-drop at cs (i + k) 0) in
-    rw (e, sym (get_or-drop at cs i 0), f 1, f 2, f 3)
+module _ (cs : List ℕ) (e : plain 15 cs ≡ true) where
+  code : (k : ℕ) → k < 15 → get_or cs k 0 < 4
+  code k h = rw (get_or-take 15 cs k 0 h) at (below_at 4 k (take 15 cs) (omega arith) (plain-below 15 cs e))
 
-module _ (cs : List ℕ) (at : ℕ) (e : plain 15 (drop at cs) ≡ true) where
-  code : (k : ℕ) → k < 15 → get_or (drop at cs) k 0 < 4
-  code k h = rw (get_or-take 15 (drop at cs) k 0 h) at (below_at 4 k (take 15 (drop at cs)) (omega arith) (plain-below 15 (drop at cs) e))
-
-  pub four_bases : (i j n : ℕ) → i ≤ 11 → j ≡ at + i → n ≡ four_from cs j → FourBases n
-  four_bases i j n h q f =
-      let ds = drop at cs in
+  pub four_bases : (i n : ℕ) → i ≤ 11 → n ≡ four_from cs i → FourBases n
+  four_bases i n h f =
       let c₀ = code i (omega arith) in
       let c₁ = code (i + 1) (omega arith) in
       let c₂ = code (i + 2) (omega arith) in
       let c₃ = code (i + 3) (omega arith) in
-      let b = bytes_of n (get_or ds i 0) (get_or ds (i + 1) 0) (get_or ds (i + 2) 0) (get_or ds (i + 3) 0) (f ∙ four_drop cs at i j q) (omega arith)
-      (omega arith) (omega arith)
+      let b = bytes_of n (get_or cs i 0) (get_or cs (i + 1) 0) (get_or cs (i + 2) 0) (get_or cs (i + 3) 0) f (omega arith) (omega arith) (omega arith)
       (omega arith) in
       (omega (arith, b.0), omega (arith, b.1), omega (arith, b.2), omega (arith, b.3))
 
-  pub two_sum : (x y z w a b c d : ℕ) → x ≡ moved a → a ≡ four_from cs at → y ≡ moved b → b ≡ four_from cs (at + 4) → z ≡ moved c → c ≡ four_from cs (at + 8)
-      → w ≡ moved d → d ≡ four_from cs (at + 11) → x * 4194304 + y * 16384 + z * 64 + w % 64 ≡ two_bit_part (drop at cs)
+  pub two_sum : (x y z w a b c d : ℕ) → x ≡ moved a → a ≡ four_from cs 0 → y ≡ moved b → b ≡ four_from cs 4 → z ≡ moved c → c ≡ four_from cs 8
+      → w ≡ moved d → d ≡ four_from cs 11 → x * 4194304 + y * 16384 + z * 64 + w % 64 ≡ two_bit_part cs
   two_sum x y z w a b c d ex ea ey eb ez ec ew ed =
-      bases-sum (drop at cs) e x y z w (ex ∙ ap moved (ea ∙ four_drop cs at 0 at (omega arith))) (ey ∙ ap moved (eb ∙ four_drop cs at 4 (at + 4) refl))
-      (ez ∙ ap moved (ec ∙ four_drop cs at 8 (at + 8) refl)) (ew ∙ ap moved (ed ∙ four_drop cs at 11 (at + 11) refl))
+      bases-sum cs e x y z w (ex ∙ ap moved ea) (ey ∙ ap moved eb) (ez ∙ ap moved ec) (ew ∙ ap moved ed)
 
 -- ---- many codes
 
@@ -116,21 +107,13 @@ quarter x =
 pub or_small : (a b : ℕ) → ltb (bit_or a b) 4 ≡ (ltb a 4 && ltb b 4)
 or_small a b = quarter (bit_or a b) ∙ (ap (λ (n : ℕ). eqb n 0) (or_shr a b 2) ∙ (or_none (a / 4) (b / 4) ∙ rw (quarter a, quarter b)))
 
-and-true : (b : Bool) → (b && true) ≡ b
-and-true true = refl
-and-true false = refl
-
-and_assoc : (a b c : Bool) → (a && (b && c)) ≡ ((a && b) && c)
-and_assoc true b c = refl
-and_assoc false b c = refl
-
 -- one code more
 plain-suc : (n : ℕ) (cs : List ℕ) → n < length cs → plain (suc n) cs ≡ (plain n cs && ltb (get_or cs n 0) 4)
 unfolding plain
 plain-suc zero [] h = let z : ⊥ = omega arith in absurd z
 plain-suc zero (c ∷ cs) h = and-true (ltb c 4)
 plain-suc (suc n) [] h = let z : ⊥ = omega arith in absurd z
-plain-suc (suc n) (c ∷ cs) h = ap (λ (b : Bool). ltb c 4 && b) (plain-suc n cs (omega arith)) ∙ and_assoc (ltb c 4) (plain n cs) (ltb (get_or cs n 0) 4)
+plain-suc (suc n) (c ∷ cs) h = ap (λ (b : Bool). ltb c 4 && b) (plain-suc n cs (omega arith)) ∙ sym (and_assoc (ltb c 4) (plain n cs) (ltb (get_or cs n 0) 4))
 
 pub plain-none : (cs : List ℕ) → true ≡ plain 0 cs
 unfolding plain

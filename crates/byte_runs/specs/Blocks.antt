@@ -3,7 +3,8 @@
 use Rattle.std.specs.Prelude.{◌≡◌, Bool, cond, List, ◌++◌, ℕ, ◌<◌, length, take, get_or}
 use Rattle.fields.specs.Written.{little_bytes}
 use Rattle.residues.specs.Alphabets.{is_amino}
-use Rattle.packets.specs.Runs.{is_five_bit, codes_in}
+use Rattle.packets.specs.Runs.{is_five_bit}
+use Rattle.packets.specs.Bytes.{bytes_of}
 
 -- Whether they hold 5-bit codes is the same for the first n packets.
 abbrev pub AllOf : Bool → List ℕ → ℕ → Type 0
@@ -13,20 +14,14 @@ AllOf five packets n = (k : ℕ) → k < n → is_five_bit (get_or packets k 0) 
 abbrev pub Fronts : List ℕ → List ℕ → Type 0
 Fronts codes bytes = take (length codes) bytes ≡ codes
 
--- The bytes of four numbers, and of one of four bytes and one of two.
-abbrev pub bytes_of_four : ℕ → ℕ → ℕ → ℕ → List ℕ
-bytes_of_four a b c d = little_bytes 4 a ++ (little_bytes 4 b ++ (little_bytes 4 c ++ little_bytes 4 d))
+-- Codes stand at the front of the bytes of four numbers.
+pub record FrontOfFour (codes numbers : List ℕ) : Type 0 where
+  pub four : length numbers ≡ 4
+  pub front : Fronts codes (bytes_of numbers)
 
-abbrev pub bytes_of_two : ℕ → ℕ → List ℕ
-bytes_of_two four two = little_bytes 4 four ++ little_bytes 2 two
-
--- Each of the first n packets is taken apart: its codes stand at the front of its four numbers, or are its two.
-abbrev pub InFour : List ℕ → ℕ → List ℕ → List ℕ → List ℕ → List ℕ → Type 0
-InFour packets n ws xs ys zs =
-    (j : ℕ) → j < n → Fronts (codes_in (get_or packets j 0)) (bytes_of_four (get_or ws j 0) (get_or xs j 0) (get_or ys j 0) (get_or zs j 0))
-
-abbrev pub InTwo : List ℕ → ℕ → List ℕ → List ℕ → Type 0
-InTwo packets n fours twos = (j : ℕ) → j < n → bytes_of_two (get_or fours j 0) (get_or twos j 0) ≡ codes_in (get_or packets j 0)
+-- The bytes of two numbers, four of the first and two of the second.
+abbrev pub bytes_of_two : List ℕ → List ℕ
+bytes_of_two codes = little_bytes 4 (get_or codes 0 0) ++ little_bytes 2 (get_or codes 1 0)
 
 -- Behind a block of nucleic packets so many bytes more may be written ..
 abbrev pub margin : ℕ → ℕ

@@ -1,9 +1,10 @@
 -- Lists of `pack_bytes` calls over one buffer of bytes (document 01, "Packets").
 -- Assumes nothing.
-use Rattle.std.specs.Prelude.{◌≡◌, List, ◌++◌, ℕ, ◌+◌, ◌*◌, ◌≤◌, length, drop}
+use Rattle.std.specs.Prelude.{◌≡◌, Result, List, ◌++◌, ℕ, ◌+◌, ◌*◌, ◌≤◌, length, drop}
 use Rattle.packets.specs.Bytes.{bytes_of}
 use Rattle.runs.specs.Bodies.{Item, taken, after_each, packed_by}
-use Rattle.runs.specs.declared.PackAnswer.{PackAnswer}
+use Rattle.answers.specs.declared.Refusal.{Refusal}
+use Rattle.runs.specs.declared.RunSize.{RunSize}
 use Rattle.byte_runs.specs.Bytes.{pack_bytes_answer, bytes_after}
 
 -- A buffer of bytes and the place of the next call, counted in packets.
@@ -11,7 +12,7 @@ pub record ByteBuffer : Type 0 where
   pub bytes : List ℕ
   pub place : ℕ
 
-abbrev pub byte_call_answer : ByteBuffer → Item → PackAnswer
+abbrev pub byte_call_answer : ByteBuffer → Item → Result RunSize Refusal
 byte_call_answer buffer s = pack_bytes_answer s.alphabet s.codes buffer.bytes buffer.place
 
 -- The buffer after a call; the next place is the call's place plus the packets it returned, or the same place if it was refused.

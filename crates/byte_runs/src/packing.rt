@@ -8,8 +8,9 @@ ghost use Rattle.packets.specs.Packing.{plain, two_bit_part, five_bit_part, run}
 ghost use Rattle.packets.specs.Bytes.{bytes_of};
 ghost use Rattle.byte_runs.specs.Packed.{fives, twos, SixCodes, six_packet, FourBases, moved, plain_parts, RunBegun};
 
-use crate::bytes::{four_at, put_packet};
-use packets::{PacketPos, TwoBit};
+use crate::bytes::{four_at, put_packet, put_packets, start_of};
+use packets::PacketPos;
+use std::array;
 
 // How many packets are written, and how many codes they take.
 #[derive(Clone, Copy)]
@@ -40,12 +41,12 @@ fn six_of(four: u32, two: u32) -> u32
         + two / 256
 }
 
-// The 5-bit packet of six codes from a place on. They are read four and two at once, so that the compiler makes several packets together.
-fn five_packet(codes: &[u8], at: usize) -> u32
-    requires { (at + 6 ≤ length codes.now) × (all_below 28 codes.now ≡ true) }
-    ensures { result ≡ five_bit_part (drop at codes.now) }
+// The 5-bit packet of the next six codes. They are read four and two at once, so that the compiler makes several packets together.
+fn five_packet(next: &[u8]) -> u32
+    requires { (6 ≤ length next.now) × (all_below 28 next.now ≡ true) }
+    ensures { result ≡ five_bit_part next.now }
 {
-    six_of(four_at(codes, at), two_at(codes, at + 4))
+    six_of(four_at(next, 0), two_at(next, 4))
 }
 
 // The 5-bit packets of the first ninety-six codes, made with no store to the output in between.
@@ -53,25 +54,7 @@ fn sixteen_fives(codes: &[u8]) -> [u32; 16]
     requires { (96 ≤ length codes.now) × (all_below 28 codes.now ≡ true) }
     ensures { result ≡ fives codes.now 16 }
 {
-    let mut packets = [0u32; 16];
-    let mut i: usize = 0;
-    while i < 16 {
-        packets[i] = five_packet(codes, 6 * i);
-        i += 1;
-    }
-    packets
-}
-
-// Writes sixteen packets at the start of the output.
-fn put_sixteen(packets: &[u32; 16], out: &mut [u8])
-    requires { (length packets.now ≡ 16) × (64 ≤ length out.old) }
-    ensures { out.new ≡ written_at 0 (bytes_of packets.now) out.old }
-{
-    let mut j: usize = 0;
-    while j < 16 {
-        put_packet(packets[j], out, PacketPos(j as u64));
-        j += 1;
-    }
+    array::from_fn(|i| five_packet(&codes[6 * i..]))
 }
 
 // Writes a few 5-bit packets at the start of the output, one by one.
@@ -79,25 +62,13 @@ fn write_few(codes: &[u8], count: usize, out: &mut [u8])
     requires { (6 * count ≤ length codes.now) × (all_below 28 codes.now ≡ true) × (4 * count ≤ length out.old) }
     ensures { out.new ≡ written_at 0 (bytes_of (fives codes.now count)) out.old }
 {
-    let mut i: usize = 0;
-    while i < count {
-        put_packet(five_packet(codes, 6 * i), out, PacketPos(i as u64));
-        i += 1;
+    for i in 0..count {
+        put_packet(five_packet(&codes[6 * i..]), out, PacketPos(i as u64));
     }
 }
 
-// Where the next block of sixteen packets begins: the last one ends with the last packet, and writes some of the one before again.
-fn block_start(i: usize, count: usize) -> usize
-    requires { (16 ≤ count) × (i ≤ count) }
-    ensures { result ≡ min i (count - 16) }
-{
-    if count - i < 16 {
-        return count - 16;
-    }
-    i
-}
-
-// Writes 5-bit packets at the start of the output, sixteen at once.
+// Writes 5-bit packets at the start of the output, sixteen at once. The last sixteen end with the last packet, and write some of those before
+// again.
 fn write_fives(codes: &[u8], count: usize, out: &mut [u8])
     requires { (6 * count ≤ length codes.now) × (all_below 28 codes.now ≡ true) × (4 * count ≤ length out.old) }
     ensures { out.new ≡ written_at 0 (bytes_of (fives codes.now count)) out.old }
@@ -106,13 +77,10 @@ fn write_fives(codes: &[u8], count: usize, out: &mut [u8])
         write_few(codes, count, out);
         return;
     }
-    let mut i: usize = 0;
-    while i < count {
-        let from = block_start(i, count);
+    for block in 0..count.div_ceil(16) {
+        let from = (16 * block).min(count - 16);
         let packets = sixteen_fives(&codes[6 * from..]);
-        let start = packets::byte_of(PacketPos(from as u64), 0);
-        put_sixteen(&packets, &mut out[start.0 as usize..]);
-        i = from + 16;
+        put_packets(&packets, &mut out[start_of(PacketPos(from as u64))..]);
     }
 }
 
@@ -139,15 +107,15 @@ fn four_shifted(codes: u32) -> u32
     pairs % 65536 * 16 + pairs / 65536
 }
 
-// The 2-bit packet of fifteen codes from a place on.
-fn two_packet(codes: &[u8], at: usize) -> u32
-    requires { (at + 15 ≤ length codes.now) × (plain 15 (drop at codes.now) ≡ true) }
-    ensures { result ≡ two_bit_part (drop at codes.now) }
+// The 2-bit packet of the next fifteen codes.
+fn two_packet(next: &[u8]) -> u32
+    requires { plain 15 next.now ≡ true }
+    ensures { result ≡ two_bit_part next.now }
 {
-    four_shifted(four_at(codes, at)) * 4194304
-        + four_shifted(four_at(codes, at + 4)) * 16384
-        + four_shifted(four_at(codes, at + 8)) * 64
-        + four_shifted(four_at(codes, at + 11)) % 64
+    four_shifted(four_at(next, 0)) * 4194304
+        + four_shifted(four_at(next, 4)) * 16384
+        + four_shifted(four_at(next, 8)) * 64
+        + four_shifted(four_at(next, 11)) % 64
 }
 
 // Whether the first two hundred and forty codes are below 4 and more follow.
@@ -158,10 +126,8 @@ fn plain_block(codes: &[u8]) -> bool
         return false;
     }
     let mut any: u8 = 0;
-    let mut i: usize = 0;
-    while i < 240 {
-        any = any | codes[i];
-        i += 1;
+    for code in &codes[..240] {
+        any |= *code;
     }
     any < 4
 }
@@ -171,13 +137,7 @@ fn sixteen_twos(codes: &[u8]) -> [u32; 16]
     requires { plain 240 codes.now ≡ true }
     ensures { result ≡ twos codes.now 16 }
 {
-    let mut packets = [0u32; 16];
-    let mut i: usize = 0;
-    while i < 16 {
-        packets[i] = two_packet(codes, 15 * i);
-        i += 1;
-    }
-    packets
+    array::from_fn(|i| two_packet(&codes[15 * i..]))
 }
 
 // Writes 2-bit packets at the start of the output, sixteen at once, as long as there are so many and more codes follow.
@@ -189,8 +149,7 @@ fn write_twos(codes: &[u8], out: &mut [u8]) -> usize
     let mut n: usize = 0;
     while plain_block(&codes[15 * n..]) {
         let packets = sixteen_twos(&codes[15 * n..]);
-        let start = packets::byte_of(PacketPos(n as u64), 0);
-        put_sixteen(&packets, &mut out[start.0 as usize..]);
+        put_packets(&packets, &mut out[start_of(PacketPos(n as u64))..]);
         n += 16;
     }
     n
@@ -206,16 +165,16 @@ fn write_inner(codes: &[u8], out: &mut [u8]) -> Written
     let mut count: usize = 0;
     let mut row: usize = 16;
     while codes.len() - at > 15 {
+        let next = &codes[at..];
         if row == 16 {
-            let start = packets::byte_of(PacketPos(count as u64), 0);
-            let n = write_twos(&codes[at..], &mut out[start.0 as usize..]);
+            let n = write_twos(next, &mut out[start_of(PacketPos(count as u64))..]);
             at += 15 * n;
             count += n;
             row = 0;
             continue;
         }
-        let TwoBit::Packet(packet) = packets::next_two_bit(&codes[at..]) else {
-            put_packet(five_packet(codes, at), out, PacketPos(count as u64));
+        let Some(packet) = packets::next_two_bit(next) else {
+            put_packet(five_packet(next), out, PacketPos(count as u64));
             at += 6;
             count += 1;
             row = 0;
@@ -238,9 +197,10 @@ fn write_nucleic_run(codes: &[u8], out: &mut [u8]) -> usize
     ensures count { result ≡ length (run 1 codes.now) }
     ensures bytes { out.new ≡ written_at 0 (bytes_of (run 1 codes.now)) out.old }
 {
-    let inner = write_inner(codes, out);
-    let mut at = inner.codes;
-    let mut count = inner.packets;
+    let Written {
+        packets: mut count,
+        codes: mut at,
+    } = write_inner(codes, out);
     loop {
         let left = codes.len() - at;
         let next = packets::encode(1, &codes[at..], left);
@@ -260,9 +220,10 @@ pub(crate) fn write_run(alphabet: u32, codes: &[u8], out: &mut [u8], place: Pack
     ensures count { result ≡ length (run alphabet codes.now) }
     ensures bytes { out.new ≡ written_at (byte_of 0 place.0) (bytes_of (run alphabet codes.now)) out.old }
 {
-    let from = packets::byte_of(place, 0);
-    if alphabet == 3 {
-        return write_amino_run(codes, &mut out[from.0 as usize..]);
+    let behind = &mut out[start_of(place)..];
+    if residues::is_amino(alphabet) {
+        write_amino_run(codes, behind)
+    } else {
+        write_nucleic_run(codes, behind)
     }
-    write_nucleic_run(codes, &mut out[from.0 as usize..])
 }

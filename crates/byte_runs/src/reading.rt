@@ -6,7 +6,7 @@ ghost use Rattle.byte_runs.specs.Bytes.{run_in};
 
 use crate::bytes::{packet_by, word_at};
 use fields::Order;
-use packets::{PacketPos, RunLength};
+use packets::PacketPos;
 
 // The faults of the first packets, put together: 0 where each may stand in a run before its last. No packet ends the loop early, so that
 // the compiler tests several at once.
@@ -15,10 +15,8 @@ fn inner_faults(order: Order, alphabet: u32, bytes: &[u8], count: usize) -> u32
     ensures { eqb result 0 ≡ inner_to alphabet (packets_by order bytes.now) count }
 {
     let mut faults: u32 = 0;
-    let mut i: usize = 0;
-    while i < count {
-        faults = faults | packets::word_fault(order, alphabet, word_at(bytes, PacketPos(i as u64)));
-        i += 1;
+    for i in 0..count {
+        faults |= packets::word_fault(order, alphabet, word_at(bytes, PacketPos(i as u64)));
     }
     faults
 }
@@ -29,10 +27,8 @@ pub(crate) fn five_bit_packets(order: Order, bytes: &[u8], count: usize) -> u32
     ensures { result ≡ five_bit_to (packets_by order bytes.now) count }
 {
     let mut fives: u32 = 0;
-    let mut i: usize = 0;
-    while i < count {
+    for i in 0..count {
         fives += packet_by(order, bytes, PacketPos(i as u64)) / 0x40000000 % 2;
-        i += 1;
     }
     fives
 }
@@ -43,31 +39,33 @@ fn inner_codes(order: Order, alphabet: u32, bytes: &[u8], count: usize) -> usize
     requires count_value { inner_to alphabet (packets_by order bytes.now) count ≡ true }
     ensures { result ≡ codes_to (packets_by order bytes.now) count }
 {
-    if alphabet == 3 {
-        return 6 * count;
+    if residues::is_amino(alphabet) {
+        6 * count
+    } else {
+        15 * count - 9 * five_bit_packets(order, bytes, count) as usize
     }
-    15 * count - 9 * five_bit_packets(order, bytes, count) as usize
 }
 
-// Reads bytes as a run, in an order. Bytes past the last whole packet are unused; more than a call takes are no run.
-pub fn read_run(order: Order, alphabet: u32, bytes: &[u8]) -> RunLength
+// Reads bytes as a run, in an order. Bytes past the last whole packet are unused; more than a call takes are no run. It is never made a part of
+// its caller: by itself the compiler takes the tests of order and alphabet out of the loops, inside a caller's loop it does not.
+#[inline(never)]
+pub fn read_run(order: Order, alphabet: u32, bytes: &[u8]) -> Option<usize>
     ensures { result ≡ run_in order alphabet bytes.now }
 {
     if bytes.len() > answers::MOST_BYTES {
-        return RunLength::NoRun;
+        return None;
     }
     let count = bytes.len() / 4;
     if count == 0 {
-        return RunLength::NoRun;
+        return None;
     }
     let last = count - 1;
     if inner_faults(order, alphabet, bytes, last) != 0 {
-        return RunLength::NoRun;
+        return None;
     }
     let packet = packet_by(order, bytes, PacketPos(last as u64));
     if !packets::is_last(alphabet, last == 0, packet) {
-        return RunLength::NoRun;
+        return None;
     }
-    let before = inner_codes(order, alphabet, bytes, last);
-    RunLength::Residues(before + packets::residue_count(packet))
+    Some(inner_codes(order, alphabet, bytes, last) + packets::residue_count(packet))
 }

@@ -1,6 +1,6 @@
 // Writing the residues of a well-formed run that is little-endian bytes: sixteen packets at once, and then packet by packet. A block of packets
 // is taken apart first, with no store to the output in between, so that the compiler takes several packets apart together.
-ghost use Rattle.std.specs.Prelude.{◌≡◌, true, false, cond, ◌+◌, ◌*◌, ◌-◌, ◌/◌, ◌≤◌, ◌<◌, length, drop};
+ghost use Rattle.std.specs.Prelude.{◌≡◌, true, false, cond, ◌+◌, ◌*◌, ◌-◌, ◌/◌, ◌≤◌, ◌<◌, length, take, drop, get_or};
 ghost use Rattle.laws.specs.Digits.{digits};
 ghost use Rattle.laws.specs.Writing.{written_at, Begun};
 ghost use Rattle.fields.specs.Written.{little_bytes};
@@ -8,12 +8,21 @@ ghost use Rattle.residues.specs.Alphabets.{is_amino};
 ghost use Rattle.packets.specs.Runs.{codes_in, well_formed, unpacked};
 ghost use Rattle.packets.specs.Bytes.{packets_of};
 ghost use Rattle.packets.specs.Decoded.{codes_from};
-ghost use Rattle.byte_runs.specs.Blocks.{AllOf, bytes_of_four, bytes_of_two, margin, spare};
+ghost use Rattle.byte_runs.specs.Blocks.{AllOf, FrontOfFour, bytes_of_two, margin, spare};
 
-use crate::bytes::{packet_at, store};
+use crate::bytes::{packet_at, put_packets, start_of, store};
 use crate::reading::five_bit_packets;
 use fields::Order;
 use packets::PacketPos;
+use std::array;
+
+// The packets of a block.
+fn sixteen_packets(block: &[u8]) -> [u32; 16]
+    requires { 64 ≤ length block.now }
+    ensures { result ≡ take 16 (packets_of block.now) }
+{
+    array::from_fn(|i| packet_at(block, PacketPos(i as u64)))
+}
 
 // The first four 5-bit codes of a packet, as the bytes of a number.
 fn first_four(packet: u32) -> u32
@@ -45,107 +54,105 @@ fn four_bases(bits: u32) -> u32
 fn pick(first: bool, a: u32, b: u32) -> u32
     ensures { result ≡ cond first a b }
 {
-    if first {
-        return a;
-    }
-    b
+    if first { a } else { b }
+}
+
+// The six 5-bit codes of a packet: the first four as the bytes of a number, and the last two.
+fn six_codes(packet: u32) -> [u32; 2]
+    ensures { bytes_of_two result ≡ digits 5 6 packet }
+{
+    [first_four(packet), last_two(packet)]
+}
+
+// The fifteen 2-bit codes of a packet as the bytes of four numbers, and one byte more.
+fn fifteen_codes(packet: u32) -> [u32; 4]
+    ensures { FrontOfFour (digits 2 15 packet) result }
+{
+    [
+        four_bases(packet / 4194304 % 256),
+        four_bases(packet / 16384 % 256),
+        four_bases(packet / 64 % 256),
+        four_bases(packet % 64 * 4),
+    ]
+}
+
+// The codes of a packet of either kind as the first bytes of four numbers. It is taken apart in both ways, so that no branch can be guessed
+// wrong.
+fn any_codes(packet: u32) -> [u32; 4]
+    ensures { FrontOfFour (codes_in packet) result }
+{
+    let five = packet / 0x40000000 % 2 == 1;
+    let [four, two] = six_codes(packet);
+    let [first, second, third, fourth] = fifteen_codes(packet);
+    [
+        pick(five, four, first),
+        pick(five, two, second),
+        third,
+        fourth,
+    ]
 }
 
 // Writes six codes from a place on, the first four and the last two each as the bytes of a number.
-fn put_six(four: u32, two: u32, out: &mut [u8], at: usize)
+fn put_six(codes: [u32; 2], out: &mut [u8], at: usize)
     requires { at + 6 ≤ length out.old }
-    ensures { out.new ≡ written_at at (bytes_of_two four two) out.old }
+    ensures { out.new ≡ written_at at (bytes_of_two codes) out.old }
 {
-    store(four, 4, out, at);
-    store(two, 2, out, at + 4);
+    store(codes[0], 4, out, at);
+    store(codes[1], 2, out, at + 4);
 }
 
-// Writes the bytes of four numbers from a place on.
-fn put_four(a: u32, b: u32, c: u32, d: u32, out: &mut [u8], at: usize)
-    requires { at + 16 ≤ length out.old }
-    ensures { out.new ≡ written_at at (bytes_of_four a b c d) out.old }
-{
-    store(a, 4, out, at);
-    store(b, 4, out, at + 4);
-    store(c, 4, out, at + 8);
-    store(d, 4, out, at + 12);
-}
-
-// Writes the codes of sixteen packets of 5-bit codes from a place on.
+// Writes the codes of sixteen packets of 5-bit codes from a place on. Fours and twos are made from the bytes, each in an array of its own, so
+// that the compiler takes four packets apart together; an array of both, made of packets, took half as long again.
 fn put_sixes(block: &[u8], out: &mut [u8], at: usize)
     requires in_bounds { (64 ≤ length block.now) × (at + 96 ≤ length out.old) }
     requires all_of { AllOf true (packets_of block.now) 16 }
     ensures { out.new ≡ written_at at (codes_from (packets_of block.now) 0 16) out.old }
 {
-    let mut fours = [0u32; 16];
-    let mut twos = [0u32; 16];
-    let mut i: usize = 0;
-    while i < 16 {
+    let mut fours = [0; 16];
+    let mut twos = [0; 16];
+    for i in 0..16 {
         let packet = packet_at(block, PacketPos(i as u64));
         fours[i] = first_four(packet);
         twos[i] = last_two(packet);
-        i += 1;
     }
-    let mut j: usize = 0;
-    while j < 16 {
-        put_six(fours[j], twos[j], out, at + 6 * j);
-        j += 1;
+    for j in 0..16 {
+        put_six([fours[j], twos[j]], out, at + 6 * j);
     }
 }
 
 // Writes the codes of sixteen packets of 2-bit codes from a place on, and one byte more.
-fn put_bases(block: &[u8], out: &mut [u8], at: usize)
-    requires in_bounds { (64 ≤ length block.now) × (at + 241 ≤ length out.old) }
-    requires all_of { AllOf false (packets_of block.now) 16 }
-    ensures { Begun at (codes_from (packets_of block.now) 0 16) (at + 241) out.old out.new }
+fn put_bases(packets: &[u32; 16], out: &mut [u8], at: usize)
+    requires in_bounds { at + 241 ≤ length out.old }
+    requires all_of { AllOf false packets.now 16 }
+    ensures { Begun at (codes_from packets.now 0 16) (at + 241) out.old out.new }
 {
-    let mut first = [0u32; 16];
-    let mut second = [0u32; 16];
-    let mut third = [0u32; 16];
-    let mut fourth = [0u32; 16];
-    let mut i: usize = 0;
-    while i < 16 {
-        let packet = packet_at(block, PacketPos(i as u64));
-        first[i] = four_bases(packet / 4194304 % 256);
-        second[i] = four_bases(packet / 16384 % 256);
-        third[i] = four_bases(packet / 64 % 256);
-        fourth[i] = four_bases(packet % 64 * 4);
-        i += 1;
-    }
-    let mut j: usize = 0;
-    while j < 16 {
-        put_four(first[j], second[j], third[j], fourth[j], out, at + 15 * j);
-        j += 1;
+    let codes: [[u32; 4]; 16] = array::from_fn(
+        |i|
+            requires { i < 16 }
+            ensures { FrontOfFour (digits 2 15 (get_or packets.entry.now i 0)) result }
+        { fifteen_codes(packets[i]) },
+    );
+    for j in 0..16 {
+        put_packets(&codes[j], &mut out[at + 15 * j..]);
     }
 }
 
-// Writes the codes of sixteen packets of both kinds from a place on, and up to ten bytes more; the place behind the codes. Each packet is taken
-// apart in both ways, so that no branch can be guessed wrong.
-fn put_mixed(block: &[u8], out: &mut [u8], place: usize) -> usize
-    requires { (64 ≤ length block.now) × (place + length (codes_from (packets_of block.now) 0 16) + 10 ≤ length out.old) }
-    ensures behind { result ≡ place + length (codes_from (packets_of block.now) 0 16) }
-    ensures codes { Begun place (codes_from (packets_of block.now) 0 16) (result + 10) out.old out.new }
+// Writes the codes of sixteen packets of both kinds from a place on, and up to ten bytes more; the place behind the codes.
+fn put_mixed(packets: &[u32; 16], out: &mut [u8], place: usize) -> usize
+    requires { place + length (codes_from packets.now 0 16) + 10 ≤ length out.old }
+    ensures behind { result ≡ place + length (codes_from packets.now 0 16) }
+    ensures codes { Begun place (codes_from packets.now 0 16) (result + 10) out.old out.new }
 {
-    let mut first = [0u32; 16];
-    let mut second = [0u32; 16];
-    let mut third = [0u32; 16];
-    let mut fourth = [0u32; 16];
-    let mut i: usize = 0;
-    while i < 16 {
-        let packet = packet_at(block, PacketPos(i as u64));
-        let five = packet / 0x40000000 % 2 == 1;
-        first[i] = pick(five, first_four(packet), four_bases(packet / 4194304 % 256));
-        second[i] = pick(five, last_two(packet), four_bases(packet / 16384 % 256));
-        third[i] = four_bases(packet / 64 % 256);
-        fourth[i] = four_bases(packet % 64 * 4);
-        i += 1;
-    }
-    let mut at: usize = place;
-    let mut j: usize = 0;
-    while j < 16 {
-        put_four(first[j], second[j], third[j], fourth[j], out, at);
-        at += packets::code_count(packet_at(block, PacketPos(j as u64)));
-        j += 1;
+    let codes: [[u32; 4]; 16] = array::from_fn(
+        |i|
+            requires { i < 16 }
+            ensures { FrontOfFour (codes_in (get_or packets.entry.now i 0)) result }
+        { any_codes(packets[i]) },
+    );
+    let mut at = place;
+    for j in 0..16 {
+        put_packets(&codes[j], &mut out[at..]);
+        at += packets::code_count(packets[j]);
     }
     at
 }
@@ -161,11 +168,12 @@ fn put_block(alphabet: u32, block: &[u8], out: &mut [u8], place: usize) -> usize
         put_sixes(block, out, place);
         return place + 96;
     }
+    let packets = sixteen_packets(block);
     if five_bit_packets(Order::Little, block, 16) == 0 {
-        put_bases(block, out, place);
+        put_bases(&packets, out, place);
         return place + 240;
     }
-    put_mixed(block, out, place)
+    put_mixed(&packets, out, place)
 }
 
 // Writes the codes of one packet from a place on; the place behind them.
@@ -176,7 +184,7 @@ fn put_one(packet: u32, out: &mut [u8], at: usize) -> usize
 {
     let count = packets::code_count(packet);
     if count == 6 {
-        put_six(first_four(packet), last_two(packet), out, at);
+        put_six(six_codes(packet), out, at);
         return at + 6;
     }
     packets::decode_codes(packet, out, at);
@@ -188,12 +196,10 @@ fn block_count(alphabet: u32, last: usize) -> usize
     ensures { 16 * result ≤ last - spare alphabet }
 {
     if residues::is_amino(alphabet) {
-        return last / 16;
+        last / 16
+    } else {
+        last.saturating_sub(2) / 16
     }
-    if last < 2 {
-        return 0;
-    }
-    (last - 2) / 16
 }
 
 // Writes the codes of so many blocks of sixteen packets of a well-formed run at the start of the output; how many codes they are.
@@ -204,12 +210,9 @@ fn write_blocks(alphabet: u32, bytes: &[u8], blocks: usize, out: &mut [u8]) -> u
     ensures codes { Begun 0 (codes_from (packets_of bytes.now) 0 (16 * blocks)) (length (unpacked (packets_of bytes.now))) out.old out.new }
 {
     let mut at: usize = 0;
-    let mut i: usize = 0;
-    while i < blocks {
-        let from = packets::byte_of(PacketPos((16 * i) as u64), 0);
-        let start = from.0 as usize;
+    for i in 0..blocks {
+        let start = start_of(PacketPos((16 * i) as u64));
         at = put_block(alphabet, &bytes[start..], out, at);
-        i += 1;
     }
     at
 }
@@ -220,14 +223,12 @@ fn write_rest(alphabet: u32, bytes: &[u8], from: usize, out: &mut [u8], place: u
     requires bytes_in_bounds { place + length (unpacked (drop from (packets_of bytes.now))) ≤ length out.old }
     ensures { out.new ≡ written_at place (unpacked (drop from (packets_of bytes.now))) out.old }
 {
-    let count = bytes.len() / 4;
-    let mut at: usize = place;
-    let mut done: usize = 0;
-    while from + done + 1 < count {
-        at = put_one(packet_at(bytes, PacketPos((from + done) as u64)), out, at);
-        done += 1;
+    let last = bytes.len() / 4 - 1;
+    let mut at = place;
+    for i in from..last {
+        at = put_one(packet_at(bytes, PacketPos(i as u64)), out, at);
     }
-    packets::decode(packet_at(bytes, PacketPos((from + done) as u64)), out, at);
+    packets::decode(packet_at(bytes, PacketPos(last as u64)), out, at);
 }
 
 // Writes the residues of a well-formed run of little-endian bytes at the start of the output.

@@ -2,15 +2,16 @@
 ghost use Rattle.std.specs.Prelude.{◌≤◌, IfOk};
 
 use std::alloc::{AllocError, AllocFailed, Global};
+use std::fmt::HasDigits;
 use std::io;
 use std::io::{ErrorKind, Read};
 
 // The most bytes of a range, the most packets of a packet range and the most numbers of a list of numbers.
-const MOST_BYTES: u64 = 16384;
+const MOST_BYTES: usize = 16384;
 
-const MOST_PACKETS: u64 = 4096;
+const MOST_PACKETS: usize = 4096;
 
-const MOST_NUMBERS: u64 = 2048;
+const MOST_NUMBERS: usize = 2048;
 
 // Why a run ends: the stream ends inside a case, a range is too long, a byte names no call, or a read, a write or an allocation fails.
 #[derive(Clone, Copy)]
@@ -53,9 +54,8 @@ impl<R: Read> Input<R> {
 
     // The byte of the next call; none at the stream's end.
     pub fn take_call(&mut self) -> Result<Option<u8>, End> {
-        let mut call = [0u8; 1];
-        match self.take_bytes(&mut call) {
-            Ok(()) => Ok(Some(call[0])),
+        match u8::take(self) {
+            Ok(call) => Ok(Some(call)),
             Err(End::Cut) => Ok(None),
             Err(end) => Err(end),
         }
@@ -70,35 +70,32 @@ impl<R: Read> Input<R> {
         }
     }
 
-    fn take_byte(&mut self) -> Result<u8, End> {
-        let mut byte = [0u8; 1];
-        self.take_bytes(&mut byte)?;
-        Ok(byte[0])
-    }
-
-    // The next number of four bytes.
-    fn take_word(&mut self) -> Result<u32, End> {
-        let mut bytes = [0u8; 4];
+    // The next bytes, as many as the array has.
+    fn take_array<const N: usize>(&mut self) -> Result<[u8; N], End> {
+        let mut bytes = [0u8; N];
         self.take_bytes(&mut bytes)?;
-        Ok(u32::from_le_bytes(bytes))
+        Ok(bytes)
     }
 
     // The next number of eight bytes.
     pub fn take_number(&mut self) -> Result<u64, End> {
-        let mut bytes = [0u8; 8];
-        self.take_bytes(&mut bytes)?;
-        Ok(u64::from_le_bytes(bytes))
+        Ok(u64::from_le_bytes(self.take_array()?))
+    }
+
+    // The next number of eight bytes as a 32-bit argument: the largest one where it is larger.
+    pub fn take_narrow(&mut self) -> Result<u32, End> {
+        Ok(u32::try_from(self.take_number()?).unwrap_or(u32::MAX))
     }
 
     // The next length, of at most `most` elements.
-    fn take_length(&mut self, most: u64) -> Result<usize, End>
+    fn take_length(&mut self, most: usize) -> Result<usize, End>
         ensures { IfOk result (λ n. n ≤ most) }
     {
-        let n = self.take_word()? as u64;
+        let n = u32::from_le_bytes(self.take_array()?) as usize;
         if n > most {
             return Err(End::TooLong);
         }
-        Ok(n as usize)
+        Ok(n)
     }
 
     // The next range.
@@ -109,52 +106,53 @@ impl<R: Read> Input<R> {
         Ok(range)
     }
 
-    // The next output to lend.
-    pub fn take_output(&mut self) -> Result<Vec<u8>, End> {
-        let n = self.take_length(MOST_BYTES)?;
-        let fill = self.take_byte()?;
-        Ok(vec![in self.alloc; fill; n]?)
-    }
-
-    // The next packet output to lend.
-    pub fn take_packet_output(&mut self) -> Result<Vec<u32>, End> {
-        let n = self.take_length(MOST_PACKETS)?;
-        let fill = self.take_word()?;
-        Ok(vec![in self.alloc; fill; n]?)
-    }
-
-    // The next packet range.
-    pub fn take_packets(&mut self) -> Result<Vec<u32>, End> {
-        let n = self.take_length(MOST_PACKETS)?;
-        let mut packets = Vec::with_capacity(self.alloc, n)?;
+    // The next list of packets or of numbers.
+    pub fn take_list<T: Element>(&mut self) -> Result<Vec<T>, End> {
+        let n = self.take_length(T::MOST)?;
+        let mut list = Vec::with_capacity(self.alloc, n)?;
         for _ in 0..n {
-            packets.push(self.take_word()?)?;
+            list.push(T::take(self)?)?;
         }
-        Ok(packets)
+        Ok(list)
     }
 
-    // The next list of numbers.
-    pub fn take_numbers(&mut self) -> Result<Vec<u64>, End> {
-        let n = self.take_length(MOST_NUMBERS)?;
-        let mut numbers = Vec::with_capacity(self.alloc, n)?;
-        for _ in 0..n {
-            numbers.push(self.take_number()?)?;
-        }
-        Ok(numbers)
-    }
-
-    // The next number output to lend.
-    pub fn take_number_output(&mut self) -> Result<Vec<u64>, End> {
-        let n = self.take_length(MOST_NUMBERS)?;
-        let fill = self.take_number()?;
+    // The next output to lend: its length, and what fills it.
+    pub fn take_output<T: Element>(&mut self) -> Result<Vec<T>, End> {
+        let n = self.take_length(T::MOST)?;
+        let fill = T::take(self)?;
         Ok(vec![in self.alloc; fill; n]?)
     }
 }
 
-// A number as a 32-bit argument: the largest one where it is larger.
-pub fn narrow(n: u64) -> u32 {
-    if n > 0xffff_ffff {
-        return 0xffff_ffff;
+// What a range, a list or an output consists of: bytes, packets or numbers.
+pub trait Element: Copy + HasDigits {
+    // The most elements of a range or list.
+    const MOST: usize;
+
+    // The next element of a stream.
+    fn take<R: Read>(input: &mut Input<R>) -> Result<Self, End>;
+}
+
+impl Element for u8 {
+    const MOST: usize = MOST_BYTES;
+
+    fn take<R: Read>(input: &mut Input<R>) -> Result<u8, End> {
+        Ok(u8::from_le_bytes(input.take_array()?))
     }
-    n as u32
+}
+
+impl Element for u32 {
+    const MOST: usize = MOST_PACKETS;
+
+    fn take<R: Read>(input: &mut Input<R>) -> Result<u32, End> {
+        Ok(u32::from_le_bytes(input.take_array()?))
+    }
+}
+
+impl Element for u64 {
+    const MOST: usize = MOST_NUMBERS;
+
+    fn take<R: Read>(input: &mut Input<R>) -> Result<u64, End> {
+        input.take_number()
+    }
 }

@@ -86,9 +86,8 @@ fn main(rt: HostRuntime) -> io::Result<()> {
     let mut input = Input::new(alloc, BufReader::new(alloc, rt.stdin())?);
     let mut output = BufWriter::new(alloc, rt.stdout())?;
     let mut line = String::new(alloc);
-    match run_cases(&mut input, &mut line, &mut output) {
-        Ok(()) => {}
-        Err(end) => put_end(&mut output, end)?,
+    if let Err(end) = run_cases(&mut input, &mut line, &mut output) {
+        put_end(&mut output, end)?;
     }
     output.flush()
 }

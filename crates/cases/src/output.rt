@@ -1,70 +1,93 @@
 // The line of a case: numbers in decimal, outputs in hex.
+use crate::input::Element;
 use answers::Refusal;
+use elements::Span;
+use runs::RunSize;
 use std::alloc::AllocError;
-
-// The hex digit of a number, by its remainder.
-fn digit(n: u8) -> char {
-    let d = n % 16;
-    if d < 10 {
-        return char::from(b'0' + d);
-    }
-    char::from(b'a' + (d - 10))
-}
-
-pub fn put_number(line: &mut String, n: u64) -> Result<(), AllocError> {
-    write!(line, "{n}")
-}
 
 // The number of a refusal.
 pub fn put_refusal(line: &mut String, r: Refusal) -> Result<(), AllocError> {
-    put_number(line, answers::number(r) as u64)
+    write!(line, "{}", u32::from(r))
 }
 
-// A number, after a space.
-pub fn put_next(line: &mut String, n: u64) -> Result<(), AllocError> {
-    write!(line, " {n}")
-}
-
-// A signed number, after a space.
-pub fn put_signed(line: &mut String, n: i64) -> Result<(), AllocError> {
-    write!(line, " {n}")
-}
-
-// Bytes in hex, two digits each, after a space; `-` where there are none.
-pub fn put_hex(line: &mut String, bytes: &[u8]) -> Result<(), AllocError> {
-    if bytes.is_empty() {
+// Bytes, packets or numbers in hex, two digits for each of their bytes, after a space; `-` where there are none.
+pub fn put_hex<T: Element>(line: &mut String, items: &[T]) -> Result<(), AllocError> {
+    if items.is_empty() {
         return line.push_str(" -");
     }
     line.push(' ')?;
-    for b in bytes {
-        line.push(digit(*b / 16))?;
-        line.push(digit(*b))?;
+    for item in items {
+        write!(line, "{item:0width$x}", width = 2 * size_of::<T>())?;
     }
     Ok(())
 }
 
-// Packets in hex, eight digits each, after a space; `-` where there are none.
-pub fn put_packets(line: &mut String, packets: &[u32]) -> Result<(), AllocError> {
-    if packets.is_empty() {
-        return line.push_str(" -");
-    }
-    line.push(' ')?;
-    for packet in packets {
-        let packet = *packet;
-        write!(line, "{packet:08x}")?;
-    }
-    Ok(())
+// What puts its values into a line, each after a space.
+pub trait PutValues {
+    fn put_values(&self, line: &mut String) -> Result<(), AllocError>;
 }
 
-// Numbers in hex, sixteen digits each, after a space; `-` where there are none.
-pub fn put_numbers(line: &mut String, numbers: &[u64]) -> Result<(), AllocError> {
-    if numbers.is_empty() {
-        return line.push_str(" -");
+// A number, in decimal.
+impl PutValues for u32 {
+    fn put_values(&self, line: &mut String) -> Result<(), AllocError> {
+        write!(line, " {self}")
     }
-    line.push(' ')?;
-    for number in numbers {
-        let number = *number;
-        write!(line, "{number:016x}")?;
+}
+
+impl PutValues for u64 {
+    fn put_values(&self, line: &mut String) -> Result<(), AllocError> {
+        write!(line, " {self}")
     }
-    Ok(())
+}
+
+impl PutValues for usize {
+    fn put_values(&self, line: &mut String) -> Result<(), AllocError> {
+        write!(line, " {self}")
+    }
+}
+
+impl PutValues for i64 {
+    fn put_values(&self, line: &mut String) -> Result<(), AllocError> {
+        write!(line, " {self}")
+    }
+}
+
+// A text, by its start and length.
+impl PutValues for Span {
+    fn put_values(&self, line: &mut String) -> Result<(), AllocError> {
+        self.start.put_values(line)?;
+        self.len.put_values(line)
+    }
+}
+
+// What may be left out: `-` where it is.
+impl<T: PutValues> PutValues for Option<T> {
+    fn put_values(&self, line: &mut String) -> Result<(), AllocError> {
+        match self {
+            Some(value) => value.put_values(line),
+            None => line.push_str(" -"),
+        }
+    }
+}
+
+// A run's packets, and its residues.
+impl PutValues for RunSize {
+    fn put_values(&self, line: &mut String) -> Result<(), AllocError> {
+        self.packets.put_values(line)?;
+        self.residues.put_values(line)
+    }
+}
+
+// An answer: 0 and its values, or the number of its refusal.
+pub fn put_answer<T: PutValues + Drop>(
+    line: &mut String,
+    answer: Result<T, Refusal>,
+) -> Result<(), AllocError> {
+    match answer {
+        Ok(values) => {
+            line.push('0')?;
+            values.put_values(line)
+        }
+        Err(r) => put_refusal(line, r),
+    }
 }

@@ -1,20 +1,20 @@
 // The page: call 13.
 use crate::input::{End, Input};
-use crate::output::{put_hex, put_next, put_number, put_numbers, put_refusal};
-use pages::PageAnswer;
+use crate::output::{PutValues, put_hex, put_refusal};
+use pages::Stop;
 use std::alloc::AllocError;
 use std::io::Read;
 
 // An answer's number, and how many items were done.
-fn put_page_answer(line: &mut String, answer: PageAnswer) -> Result<(), AllocError> {
+fn put_page_answer(line: &mut String, answer: Result<u64, Stop>) -> Result<(), AllocError> {
     match answer {
-        PageAnswer::Fetched(done) => {
-            put_number(line, 0)?;
-            put_next(line, done)
+        Ok(done) => {
+            line.push('0')?;
+            done.put_values(line)
         }
-        PageAnswer::Stopped { refusal, done } => {
+        Err(Stop { refusal, done }) => {
             put_refusal(line, refusal)?;
-            put_next(line, done)
+            done.put_values(line)
         }
     }
 }
@@ -22,9 +22,9 @@ fn put_page_answer(line: &mut String, answer: PageAnswer) -> Result<(), AllocErr
 pub fn fetch_page<R: Read>(input: &mut Input<R>, line: &mut String) -> Result<(), End> {
     let index = input.take_range()?;
     let sequence = input.take_range()?;
-    let numbers = input.take_numbers()?;
-    let mut out = input.take_output()?;
-    let mut ends = input.take_number_output()?;
+    let numbers = input.take_list::<u64>()?;
+    let mut out = input.take_output::<u8>()?;
+    let mut ends = input.take_output::<u64>()?;
     let answer = pages::fetch_page(
         index.as_slice(),
         sequence.as_slice(),
@@ -34,6 +34,6 @@ pub fn fetch_page<R: Read>(input: &mut Input<R>, line: &mut String) -> Result<()
     );
     put_page_answer(line, answer)?;
     put_hex(line, out.as_slice())?;
-    put_numbers(line, ends.as_slice())?;
+    put_hex(line, ends.as_slice())?;
     Ok(())
 }

@@ -1,31 +1,7 @@
 // The header record calls: 7 identifier, 8 walker step, 9 label.
-use crate::identifiers::put_identifier;
 use crate::input::{End, Input};
-use crate::output::{put_hex, put_next, put_number, put_refusal};
-use deflines::{IdentifierAnswer, TitleAnswer};
-use std::alloc::AllocError;
+use crate::output::{put_answer, put_hex};
 use std::io::Read;
-
-fn put_identifier_answer(line: &mut String, answer: IdentifierAnswer) -> Result<(), AllocError> {
-    match answer {
-        IdentifierAnswer::Refused(r) => put_refusal(line, r),
-        IdentifierAnswer::Found(identifier) => {
-            put_number(line, 0)?;
-            put_identifier(line, identifier)
-        }
-    }
-}
-
-fn put_title_answer(line: &mut String, answer: TitleAnswer) -> Result<(), AllocError> {
-    match answer {
-        TitleAnswer::Refused(r) => put_refusal(line, r),
-        TitleAnswer::Title(span) => {
-            put_number(line, 0)?;
-            put_next(line, span.start as u64)?;
-            put_next(line, span.len as u64)
-        }
-    }
-}
 
 // The arguments after a header file: a record's start and end, and a number.
 #[derive(Clone, Copy)]
@@ -36,10 +12,11 @@ struct Record {
 }
 
 fn take_record<R: Read>(input: &mut Input<R>) -> Result<Record, End> {
-    let start = input.take_number()?;
-    let end = input.take_number()?;
-    let number = input.take_number()?;
-    Ok(Record { start, end, number })
+    Ok(Record {
+        start: input.take_number()?,
+        end: input.take_number()?,
+        number: input.take_number()?,
+    })
 }
 
 pub fn find_identifier<R: Read>(input: &mut Input<R>, line: &mut String) -> Result<(), End> {
@@ -51,7 +28,7 @@ pub fn find_identifier<R: Read>(input: &mut Input<R>, line: &mut String) -> Resu
         record.end,
         record.number,
     );
-    put_identifier_answer(line, answer)?;
+    put_answer(line, answer)?;
     Ok(())
 }
 
@@ -59,7 +36,7 @@ pub fn step_on<R: Read>(input: &mut Input<R>, line: &mut String) -> Result<(), E
     let header = input.take_range()?;
     let record = take_record(input)?;
     let step = labels::next_title(header.as_slice(), record.start, record.end, record.number);
-    put_title_answer(line, step.answer)?;
+    put_answer(line, step.answer)?;
     Ok(())
 }
 
@@ -68,7 +45,7 @@ pub fn label<R: Read>(input: &mut Input<R>, line: &mut String) -> Result<(), End
     let header = input.take_range()?;
     let number = input.take_number()?;
     let answer = labels::label_number(index.as_slice(), header.as_slice(), number);
-    put_number(line, answer as u64)?;
+    write!(line, "{answer}")?;
     let part = labels::label_part(index.as_slice(), header.as_slice(), number);
     put_hex(line, part)?;
     Ok(())

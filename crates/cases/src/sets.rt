@@ -1,47 +1,34 @@
 // The set calls: 5 set check, 6 lookup.
-use crate::input::{End, Input, narrow};
-use crate::output::{put_next, put_number, put_refusal};
-use dsqdata::{LookupAnswer, SetAnswer, SetRecord};
+use crate::input::{End, Input};
+use crate::output::{PutValues, put_answer};
+use dsqdata::{Located, SetRecord};
 use fields::Order;
 use std::alloc::AllocError;
 use std::io::Read;
 
-// An answer's number and values.
-fn put_set_answer(line: &mut String, answer: SetAnswer) -> Result<(), AllocError> {
-    match answer {
-        SetAnswer::Refused(r) => put_refusal(line, r),
-        SetAnswer::Passed(set) => {
-            put_number(line, 0)?;
-            put_next(line, set.magic as u64)?;
-            put_next(line, set.tag as u64)?;
-            put_next(line, set.alphabet as u64)?;
-            put_next(line, set.flags as u64)?;
-            put_next(line, set.longest_name as u64)?;
-            put_next(line, set.longest_accession as u64)?;
-            put_next(line, set.longest_description as u64)?;
-            put_next(line, set.longest_sequence)?;
-            put_next(line, set.count)?;
-            put_next(line, set.residues)?;
-            put_next(line, dsqdata::order_number(set.order))
-        }
+// The ten fields and the byte order of a record.
+impl PutValues for SetRecord {
+    fn put_values(&self, line: &mut String) -> Result<(), AllocError> {
+        self.magic.put_values(line)?;
+        self.tag.put_values(line)?;
+        self.alphabet.put_values(line)?;
+        self.flags.put_values(line)?;
+        self.longest_name.put_values(line)?;
+        self.longest_accession.put_values(line)?;
+        self.longest_description.put_values(line)?;
+        self.longest_sequence.put_values(line)?;
+        self.count.put_values(line)?;
+        self.residues.put_values(line)?;
+        dsqdata::order_number(self.order).put_values(line)
     }
 }
 
-fn put_lookup_answer(line: &mut String, answer: LookupAnswer) -> Result<(), AllocError> {
-    match answer {
-        LookupAnswer::Refused(r) => put_refusal(line, r),
-        LookupAnswer::Found {
-            start,
-            bytes,
-            run,
-            packets,
-        } => {
-            put_number(line, 0)?;
-            put_next(line, start.0)?;
-            put_next(line, bytes)?;
-            put_next(line, run.0)?;
-            put_next(line, packets)
-        }
+impl PutValues for Located {
+    fn put_values(&self, line: &mut String) -> Result<(), AllocError> {
+        self.start.0.put_values(line)?;
+        self.bytes.put_values(line)?;
+        self.run.0.put_values(line)?;
+        self.packets.put_values(line)
     }
 }
 
@@ -50,28 +37,28 @@ pub fn check_set<R: Read>(input: &mut Input<R>, line: &mut String) -> Result<(),
     let metadata = input.take_range()?;
     let sequence = input.take_range()?;
     let answer = dsqdata::check_set(index.as_slice(), metadata.as_slice(), sequence.as_slice());
-    put_set_answer(line, answer)?;
+    put_answer(line, answer)?;
     Ok(())
 }
 
 // The byte order that a number tells: 0 little-endian, any other big-endian.
 fn order_told(number: u64) -> Order {
-    if number == 0 {
-        return Order::Little;
+    match number {
+        0 => Order::Little,
+        _ => Order::Big,
     }
-    Order::Big
 }
 
 // The ten fields and the byte order of a record.
 fn take_record<R: Read>(input: &mut Input<R>) -> Result<SetRecord, End> {
     Ok(SetRecord {
-        magic: narrow(input.take_number()?),
-        tag: narrow(input.take_number()?),
-        alphabet: narrow(input.take_number()?),
-        flags: narrow(input.take_number()?),
-        longest_name: narrow(input.take_number()?),
-        longest_accession: narrow(input.take_number()?),
-        longest_description: narrow(input.take_number()?),
+        magic: input.take_narrow()?,
+        tag: input.take_narrow()?,
+        alphabet: input.take_narrow()?,
+        flags: input.take_narrow()?,
+        longest_name: input.take_narrow()?,
+        longest_accession: input.take_narrow()?,
+        longest_description: input.take_narrow()?,
         longest_sequence: input.take_number()?,
         count: input.take_number()?,
         residues: input.take_number()?,
@@ -84,6 +71,6 @@ pub fn look_up<R: Read>(input: &mut Input<R>, line: &mut String) -> Result<(), E
     let index = input.take_range()?;
     let number = input.take_number()?;
     let answer = dsqdata::lookup(set, index.as_slice(), number);
-    put_lookup_answer(line, answer)?;
+    put_answer(line, answer)?;
     Ok(())
 }

@@ -1,36 +1,20 @@
 // The volume calls: 1 volume check, 2 decode, 10 console volume check.
 use crate::input::{End, Input};
-use crate::output::{put_hex, put_next, put_number, put_refusal};
-use sequence::DecodeAnswer;
+use crate::output::{PutValues, put_answer, put_hex};
 use std::alloc::AllocError;
 use std::io::Read;
-use volume::VolumeAnswer;
+use volume::VolumeRecord;
 
-// An answer's number and values.
-fn put_volume_answer(line: &mut String, answer: VolumeAnswer) -> Result<(), AllocError> {
-    match answer {
-        VolumeAnswer::Refused(r) => put_refusal(line, r),
-        VolumeAnswer::Passed(v) => {
-            put_number(line, 0)?;
-            put_next(line, v.kind as u64)?;
-            put_next(line, v.sequences as u64)?;
-            put_next(line, v.residues as u64)?;
-            put_next(line, v.longest as u64)?;
-            put_next(line, v.title_start as u64)?;
-            put_next(line, v.title_length as u64)?;
-            put_next(line, v.timestamp_start as u64)?;
-            put_next(line, v.timestamp_length as u64)
-        }
-    }
-}
-
-fn put_decode_answer(line: &mut String, answer: DecodeAnswer) -> Result<(), AllocError> {
-    match answer {
-        DecodeAnswer::Refused(r) => put_refusal(line, r),
-        DecodeAnswer::Decoded(l) => {
-            put_number(line, 0)?;
-            put_next(line, l as u64)
-        }
+impl PutValues for VolumeRecord {
+    fn put_values(&self, line: &mut String) -> Result<(), AllocError> {
+        self.kind.put_values(line)?;
+        self.sequences.put_values(line)?;
+        self.residues.put_values(line)?;
+        self.longest.put_values(line)?;
+        self.title_start.put_values(line)?;
+        self.title_length.put_values(line)?;
+        self.timestamp_start.put_values(line)?;
+        self.timestamp_length.put_values(line)
     }
 }
 
@@ -39,7 +23,7 @@ pub fn check_volume<R: Read>(input: &mut Input<R>, line: &mut String) -> Result<
     let sequence = input.take_range()?;
     let header = input.take_range()?;
     let answer = volume::check_volume(index.as_slice(), sequence.as_slice(), header.as_slice());
-    put_volume_answer(line, answer)?;
+    put_answer(line, answer)?;
     Ok(())
 }
 
@@ -47,14 +31,14 @@ pub fn decode<R: Read>(input: &mut Input<R>, line: &mut String) -> Result<(), En
     let index = input.take_range()?;
     let sequence = input.take_range()?;
     let number = input.take_number()?;
-    let mut out = input.take_output()?;
+    let mut out = input.take_output::<u8>()?;
     let answer = sequence::decode(
         index.as_slice(),
         sequence.as_slice(),
         number,
         out.as_mut_slice(),
     );
-    put_decode_answer(line, answer)?;
+    put_answer(line, answer)?;
     put_hex(line, out.as_slice())?;
     Ok(())
 }
@@ -63,14 +47,14 @@ pub fn console_check_volume<R: Read>(input: &mut Input<R>, line: &mut String) ->
     let index = input.take_range()?;
     let sequence = input.take_range()?;
     let header = input.take_range()?;
-    let mut results = input.take_output()?;
+    let mut results = input.take_output::<u8>()?;
     let answer = console::gull_check_volume(
         index.as_slice(),
         sequence.as_slice(),
         header.as_slice(),
         results.as_mut_slice(),
     );
-    put_number(line, answer as u64)?;
+    write!(line, "{answer}")?;
     put_hex(line, results.as_slice())?;
     Ok(())
 }

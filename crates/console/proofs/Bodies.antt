@@ -1,5 +1,6 @@
 -- What a list of the console's packing calls leaves: a call that packs does what `pack_bytes` does, and a refused one changes nothing.
 -- Assumes nothing.
+use Rattle.std.specs.Prelude.{Err, Ok}
 use mathlib.Core.Path.{◌≡◌, sym, ◌∙◌}
 use mathlib.Core.List.{List, [], ◌++◌}
 use Prim.Native.Nat.{ℕ, ◌<◌}
@@ -8,7 +9,7 @@ use lib.ListN.{length}
 use Rattle.answers.specs.declared.Refusal.{Refusal}
 use Rattle.packets.specs.Packing.{run}
 use Rattle.runs.specs.Bodies.{body}
-use Rattle.runs.specs.declared.PackAnswer.TheVariants.{Packed, Refused}
+use Rattle.runs.specs.declared.RunSize.{RunSize}
 use Rattle.runs.proofs.Bodies.{calls_add}
 use Rattle.byte_runs.specs.Bodies.{ByteBuffer, HoldsBytes}
 use Rattle.byte_runs.proofs.Bodies.{byte_call_packs, none_held}
@@ -16,16 +17,16 @@ use Rattle.console.specs.Bodies.{ConsoleCall, console_answer, after_console_call
 use Rattle.console.proofs.Calls.{pack_room, packed_room, buffer_room, buffer_kept}
 
 module _ (first : List ℕ) (short : length first < 18446744073709551616) where
-  call_packs : (ps : List ℕ) (b : ByteBuffer) (c : ConsoleCall) (n l : ℕ) → HoldsBytes first ps b → console_answer b c ≡ Packed n l
+  call_packs : (ps : List ℕ) (b : ByteBuffer) (c : ConsoleCall) (s : RunSize) → HoldsBytes first ps b → console_answer b c ≡ Ok s
       → HoldsBytes first (ps ++ run c.item.alphabet c.item.codes) (after_console_call b c)
-  call_packs ps b c n l h e =
+  call_packs ps b c s h e =
       let a = c.item.alphabet in
       let cs = c.item.codes in
-      let room = packed_room a cs b.bytes b.place c.room n l e in
+      let room = packed_room a cs b.bytes b.place c.room s e in
       let same = pack_room a cs b.bytes b.place c.room room in
-      rw (buffer_room a cs b.bytes b.place c.room room, same) (byte_call_packs first short ps b c.item n l h (sym same ∙ e))
+      rw (buffer_room a cs b.bytes b.place c.room room, same) (byte_call_packs first short ps b c.item s h (sym same ∙ e))
 
-  call_refuses : (ps : List ℕ) (b : ByteBuffer) (c : ConsoleCall) (r : Refusal) → HoldsBytes first ps b → console_answer b c ≡ Refused r
+  call_refuses : (ps : List ℕ) (b : ByteBuffer) (c : ConsoleCall) (r : Refusal) → HoldsBytes first ps b → console_answer b c ≡ Err r
       → HoldsBytes first ps (after_console_call b c)
   call_refuses ps b c r h e = rw (buffer_kept c.item.alphabet c.item.codes b.bytes b.place c.room r e, e, add-zero) h
 

@@ -1,8 +1,9 @@
 -- Lists of the console's packing calls over one buffer of bytes (document 01, "Packets").
 -- Assumes nothing.
-use Rattle.std.specs.Prelude.{List, ℕ, ◌+◌}
+use Rattle.answers.specs.declared.Refusal.{Refusal}
+use Rattle.runs.specs.declared.RunSize.{RunSize}
+use Rattle.std.specs.Prelude.{List, ℕ, ◌+◌, Result}
 use Rattle.runs.specs.Bodies.{Item, taken, after_each, packed_by}
-use Rattle.runs.specs.declared.PackAnswer.{PackAnswer}
 use Rattle.byte_runs.specs.Bodies.{ByteBuffer}
 use Rattle.console.specs.Calls.{console_pack, console_buffer}
 
@@ -11,7 +12,7 @@ pub record ConsoleCall : Type 0 where
   pub item : Item
   pub room : ℕ
 
-abbrev pub console_answer : ByteBuffer → ConsoleCall → PackAnswer
+abbrev pub console_answer : ByteBuffer → ConsoleCall → Result RunSize Refusal
 console_answer buffer call = console_pack call.item.alphabet call.item.codes buffer.bytes buffer.place call.room
 
 -- The buffer after a call; the next place is the call's place plus the packets it returned, or the same place if it was refused.

@@ -12,8 +12,6 @@ use answers::Refusal;
 use byte_runs::unpack_bytes_answer;
 use packets::PacketPos;
 pub use results::put_results;
-use runs::{PackAnswer, UnpackAnswer};
-use volume::VolumeAnswer;
 
 // The bytes that the results of each call take.
 const PACK_RESULTS: usize = 16;
@@ -38,23 +36,17 @@ pub extern "C" fn gull_pack(
     if results.len() < PACK_RESULTS {
         // nothing may be written: only the answer is wanted
         let room = buffer.len() / 4;
-        let PackAnswer::Refused(r) = runs::pack_answer(
-            alphabet,
-            codes,
-            room as u64,
-            PacketPos(place),
-        ) else {
-            return answers::number(Refusal::NoRoom);
+        return match runs::pack_answer(alphabet, codes, room as u64, PacketPos(place)) {
+            Ok(_) => u32::from(Refusal::NoRoom),
+            Err(r) => u32::from(r),
         };
-        return answers::number(r);
     }
     match byte_runs::pack_bytes(alphabet, codes, buffer, PacketPos(place)) {
-        PackAnswer::Refused(r) => answers::number(r),
-        PackAnswer::Packed { packets, residues } => {
-            let values = [packets, residues];
-            put_results(results, &values);
+        Ok(size) => {
+            put_results(results, &[size.packets, size.residues]);
             0
         }
+        Err(r) => u32::from(r),
     }
 }
 
@@ -71,18 +63,18 @@ pub extern "C" fn gull_unpack(
     ensures results { results.new ≡ unpack_results (console_unpack alphabet packets.now (length codes.old) (length results.old)) results.old }
 {
     if results.len() < UNPACK_RESULTS {
-        let UnpackAnswer::Refused(r) = unpack_bytes_answer(alphabet, packets, codes.len()) else {
-            return answers::number(Refusal::NoRoom);
+        return match unpack_bytes_answer(alphabet, packets, codes.len()) {
+            Ok(_) => u32::from(Refusal::NoRoom),
+            Err(r) => u32::from(r),
         };
-        return answers::number(r);
     }
     match byte_runs::unpack_bytes(alphabet, packets, codes) {
-        UnpackAnswer::Refused(r) => answers::number(r),
-        UnpackAnswer::Unpacked { packets, residues } => {
-            let counts = [packets, residues];
+        Ok(size) => {
+            let counts = [size.packets, size.residues];
             put_results(results, &counts);
             0
         }
+        Err(r) => u32::from(r),
     }
 }
 
@@ -98,11 +90,8 @@ pub extern "C" fn gull_check_volume(
     ensures results { results.new ≡ volume_results (console_volume index.now sequence.now header.now (length results.old)) results.old }
 {
     match volume::check_volume(index, sequence, header) {
-        VolumeAnswer::Refused(r) => answers::number(r),
-        VolumeAnswer::Passed(v) => {
-            if results.len() < CHECK_VOLUME_RESULTS {
-                return answers::number(Refusal::NoRoom);
-            }
+        Ok(_) if results.len() < CHECK_VOLUME_RESULTS => u32::from(Refusal::NoRoom),
+        Ok(v) => {
             let fields = [
                 v.kind as u64,
                 v.sequences as u64,
@@ -116,5 +105,6 @@ pub extern "C" fn gull_check_volume(
             put_results(results, &fields);
             0
         }
+        Err(r) => u32::from(r),
     }
 }

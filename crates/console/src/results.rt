@@ -3,15 +3,15 @@ ghost use Rattle.std.specs.Prelude.{◌≡◌, ◌*◌, ◌≤◌, length};
 ghost use Rattle.laws.specs.Writing.{written_at};
 ghost use Rattle.console.specs.Results.{result_bytes, results_put};
 
+use fields::{Order, Unsigned};
+
 // Writes values at the start of a range that has room for them.
 fn write_results(results: &mut [u8], values: &[u64])
     requires { 8 * length values.now ≤ length results.old }
     ensures { results.new ≡ written_at 0 (result_bytes values.now) results.old }
 {
-    let mut k = 0;
-    while k < values.len() {
-        fields::put_le_u64(results, 8 * k, values[k]);
-        k += 1;
+    for (k, value) in values.iter().enumerate() {
+        value.put(Order::Little, results, 8 * k);
     }
 }
 

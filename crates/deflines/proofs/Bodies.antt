@@ -9,11 +9,12 @@ use Rattle.elements.specs.declared.RecordKind.TheVariants as R
 use Rattle.elements.specs.declared.Form.TheVariants as F
 use Rattle.elements.specs.Statement.{ChoiceElement}
 use Rattle.elements.specs.Statement as E
+use Rattle.std.specs.Prelude.{Some}
 use Rattle.elements.specs.DefLines.{DateStdElement, DateElement, PatentNumberElement, IdPatElement, PdbSeqIdElement, GiimportIdElement}
 use Rattle.elements.specs.DefLines.{TextseqIdElement, PatentSeqIdElement, ObjectIdElement, DbtagElement, IdentifierElement}
 use Rattle.elements.specs.DefLines as Z
 use Rattle.elements.proofs.Shape.{object_id_reads, patent-number-reads, id_pat_reads, date_reads}
-use Rattle.deflines.specs.declared.OptionalDate.TheVariants as G
+use Rattle.deflines.specs.declared.Date.TheVariants as G
 use Rattle.deflines.specs.declared.Identifier.TheVariants as D
 use Rattle.deflines.specs.Identifiers.{object_id_at, import_at, text_id_at, patent_number_at, patent_at, database_tag_at, date_fields_at}
 use Rattle.deflines.specs.Identifiers.{date_at, optional_date, structure_at, identifier_at}
@@ -176,7 +177,7 @@ structure_known {s} {p} x =
     rw (
       required_text s refl at-mol mol,
       optional_integer_lem s refl at-chain behind-chain chain,
-      optional_is s (date_whole s) refl at-rel behind-rel (optional_date s) (λ q m. date_given m) (λ q c. date_known c.one) (λ q e. refl) rel,
+      optional_is s (date_whole s) refl at-rel behind-rel (optional_date s) (λ q m. date_given m) (λ q c. ap Some (date_known c.one)) (λ q e. refl) rel,
     )
 
 -- ---- by its kind

@@ -5,17 +5,15 @@ use Prim.Native.Nat.{ℕ, zero, suc, ◌+◌, ◌*◌, ◌≤◌, ◌<◌}
 use native.Mathlib.Nat.{mul-le-mul}
 use native.Mathlib.Omega.{arith}
 use lib.ListN.{length, take, drop, length-append}
-use Rattle.answers.specs.declared.Checked.{Checked}
-use Rattle.answers.specs.declared.Checked.TheVariants as C
+use Rattle.std.specs.Prelude.{Option, Result, Ok, Err}
+use Rattle.answers.specs.declared.Refusal.{Refusal}
+use Rattle.std.specs.declared.ops.ControlFlow.TheVariants.{Break, Continue}
 use Rattle.elements.specs.declared.Span.{Span}
 use Rattle.headers.specs.Record.{check_record}
-use Rattle.deflines.specs.declared.Next.{Next}
 use Rattle.deflines.specs.declared.Field.{Field}
 use Rattle.deflines.specs.declared.Field.TheVariants as L
-use Rattle.deflines.specs.declared.TitleAnswer.TheVariants as T
-use Rattle.deflines.specs.declared.TitleSearch.TheVariants as A
 use Rattle.deflines.specs.Fields.{from_next, elements_from, elements_in, field_at, field_titles, titles_in, titles_of}
-use Rattle.deflines.specs.Numbered.{title_from}
+use Rattle.deflines.specs.Numbered.{item_from}
 use Rattle.deflines.specs.Calls.{title_given, title_in, title_of}
 use Rattle.deflines.proofs.Walks.{next_cases}
 use Rattle.deflines.proofs.Calls.{passed_small}
@@ -26,7 +24,7 @@ elements_length : (turns : ℕ) (s : List ℕ) (p : ℕ) → length (elements_fr
 unfolding elements_from
 elements_length zero s p = omega arith
 elements_length (suc turns) s p =
-    next_cases s p (λ (x : Next). length (from_next x (λ n. p ∷ elements_from turns s n)) ≤ suc turns) (omega arith)
+    next_cases s p (λ (x : Option ℕ). length (from_next x (λ n. p ∷ elements_from turns s n)) ≤ suc turns) (omega arith)
     (λ n a b. let h = elements_length turns s n in omega arith)
 
 flat_length : {X : Type 0} (m : ℕ) (f : ℕ → List X) (xs : List ℕ) → ((p : ℕ) → length (f p) ≤ m) → length (flat_map f xs) ≤ length xs * m
@@ -56,33 +54,33 @@ titles_length s start =
 -- ---- number k of the titles
 
 -- the titles after k others begin with number k
-pub title_found : (ts : List Span) (k : ℕ) → k < length ts → (t : Span) × (title_from ts k ≡ A.Found t) × (drop k ts ≡ t ∷ drop (suc k) ts)
+pub title_found : (ts : List Span) (k : ℕ) → k < length ts → (t : Span) × (item_from ts k ≡ Break t) × (drop k ts ≡ t ∷ drop (suc k) ts)
 title_found [] k h = absurd (omega arith)
 title_found (t ∷ ts) zero h = (t, refl, refl)
 title_found (t ∷ ts) (suc k) h = title_found ts k (omega arith)
 
-pub title-left : (ts : List Span) (k : ℕ) → length ts ≤ k → (j : ℕ) × (title_from ts k ≡ A.Left j)
+pub title-left : (ts : List Span) (k : ℕ) → length ts ≤ k → (j : ℕ) × (item_from ts k ≡ Continue j)
 title-left [] k h = (k, refl)
 title-left (t ∷ ts) zero h = absurd (omega arith)
 title-left (t ∷ ts) (suc k) h = title-left ts k (omega arith)
 
-found_below : (ts : List Span) (k : ℕ) (t : Span) → title_given (title_from ts k) ≡ T.Title t → k < length ts
-found_below [] k t e = absurd (let z : ◌≡◌ {A = ℕ} 0 1 = cc in omega arith)
+found_below : (ts : List Span) (k : ℕ) (t : Span) → title_given (item_from ts k) ≡ Ok t → k < length ts
+found_below [] k t e = absurd (cc)
 found_below (x ∷ ts) zero t e = omega arith
 found_below (x ∷ ts) (suc k) t e = let h = found_below ts k t e in omega arith
 
-bounded : (s : List ℕ) (start given : ℕ) (c : Checked) (t : Span) → (c ≡ C.Passed → length s ≤ 2147483647)
-    → title_in s start given c ≡ T.Title t → given < 4611686018427387904
-bounded s start given C.Passed t h e =
+bounded : (s : List ℕ) (start given : ℕ) (c : Result Unit Refusal) (t : Span) → (c ≡ Ok tt → length s ≤ 2147483647)
+    → title_in s start given c ≡ Ok t → given < 4611686018427387904
+bounded s start given (Ok tt) t h e =
     let l : length s ≤ 2147483647 = h refl in
     let m : suc (length s) ≤ 2147483648 = omega arith in
     let a = found_below (titles_of s start) given t e in
     let b = titles_length s start in
     let c : suc (length s) * suc (length s) ≤ 2147483648 * 2147483648 = mul-le-mul m m in
     omega arith
-bounded s start given (C.Refused r) t h e = absurd (let z : ◌≡◌ {A = ℕ} 0 1 = cc in omega arith)
+bounded s start given (Err r) t h e = absurd (cc)
 
 -- a title that is given has few before it
-pub title_bound : (header : List ℕ) (start end given : ℕ) (t : Span) → title_of header start end given ≡ T.Title t → given < 4611686018427387904
+pub title_bound : (header : List ℕ) (start end given : ℕ) (t : Span) → title_of header start end given ≡ Ok t → given < 4611686018427387904
 unfolding title_of
 title_bound header start end given t e = bounded (take end header) start given (check_record header start end) t (λ p. passed_small header start end p) e

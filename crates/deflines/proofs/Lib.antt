@@ -1,5 +1,6 @@
 pub mod Lists
 pub mod Walks
+pub mod Folds
 pub mod Fields
 pub mod Identifiers
 pub mod Chains

@@ -7,8 +7,10 @@ use borrow.Author.Tests.{ne_eqb}
 use lib.ListN.{length, length-map, get_or, take}
 use Rattle.answers.specs.declared.Refusal.TheVariants.{NoSuchSequence}
 use Rattle.elements.specs.declared.Span.{Span}
-use Rattle.elements.specs.declared.SpanAnswer.{SpanAnswer}
-use Rattle.elements.specs.declared.SpanAnswer.TheVariants as S
+use Rattle.answers.specs.declared.Refusal.{Refusal}
+use Rattle.std.specs.Prelude.{Result, Ok, Err}
+use Rattle.std.specs.ControlFlow.{break_value}
+use Rattle.std.specs.declared.ops.ControlFlow.TheVariants.{Break, Continue}
 use Rattle.elements.specs.declared.RecordKind.TheVariants as R
 use Rattle.elements.specs.declared.Form.TheVariants as F
 use Rattle.elements.specs.Parts.{text_at}
@@ -19,17 +21,12 @@ use Rattle.elements.proofs.Shape.{integers_reads, identifier_reads, identifiers_
 use Rattle.elements.proofs.Written.{text_written_lem}
 use Rattle.headers.specs.Statement.{GoodRecord}
 use Rattle.headers.proofs.Record.{good-passes}
-use Rattle.deflines.specs.declared.TitleAnswer.TheVariants as T
 use Rattle.deflines.specs.declared.Identifier.{Identifier}
-use Rattle.deflines.specs.declared.IdentifierAnswer.{IdentifierAnswer}
-use Rattle.deflines.specs.declared.IdentifierAnswer.TheVariants as I
-use Rattle.deflines.specs.declared.TitleSearch.TheVariants as A
-use Rattle.deflines.specs.declared.PlaceSearch.TheVariants as P
 use Rattle.deflines.specs.declared.Field.TheVariants as L
 use Rattle.deflines.specs.Fields.{elements_left, elements_in, field_at, title_field, field_titles, field_identifiers}
 use Rattle.deflines.specs.Fields.{titles_in, titles_of, identifiers_in, identifiers_of, first_titles}
-use Rattle.deflines.specs.Numbered.{numbered, title_from}
-use Rattle.deflines.specs.Calls.{title_given, title_of, identifier_given, identifier_of, first_given, first_of}
+use Rattle.deflines.specs.Numbered.{numbered, item_from}
+use Rattle.deflines.specs.Calls.{title_given, title_of, identifier_given, identifier_of, first_of}
 use Rattle.deflines.specs.Identifiers.{identifier_at}
 use Rattle.deflines.specs.Written.{title_written, line_titles, set_titles, titles_written, first_title, first_line, first_written}
 use Rattle.deflines.specs.Written.{list_identifiers, list_written, line_identifiers, set_identifiers, identifiers_written}
@@ -42,7 +39,7 @@ use Rattle.deflines.proofs.Calls.{title_passed, identifier_passed, first_passed}
 -- ---- fields by their tags
 
 module _ (s : List ℕ) (p : ℕ) where
-  title_field_lem : (t : Span) → get_or s p 0 ≡ 160 → text_at s (p + 2) ≡ S.Part t → field_at s p ≡ L.Title t
+  title_field_lem : (t : Span) → get_or s p 0 ≡ 160 → text_at s (p + 2) ≡ Ok t → field_at s p ≡ L.Title t
   unfolding field_at
   title_field_lem t e h = rw (e, h)
 
@@ -58,9 +55,9 @@ module _ (s : List ℕ) (p : ℕ) where
       rw (e, ne_eqb _ _ a, ne_eqb _ _ b)
 
   -- a title field holds no identifiers
-  no_list : (x : SpanAnswer) → field_identifiers s (title_field x) ≡ []
-  no_list (S.Part t) = refl
-  no_list (S.Refused r) = refl
+  no_list : (x : Result Span Refusal) → field_identifiers s (title_field x) ≡ []
+  no_list (Ok t) = refl
+  no_list (Err r) = refl
 
   title_no_list : get_or s p 0 ≡ 160 → field_identifiers s (field_at s p) ≡ []
   unfolding field_at
@@ -119,17 +116,17 @@ module _ (s : List ℕ) where
       left_one s (titles_in s) p q (whole-next s (line_whole s) p q line) ∙ rw (line_titles_lem line, set_titles_lem rest)
 
 -- the first def-line alone
-first-number : (ts : List Span) → first_given (title_from ts 0) ≡ first_title ts
+first-number : (ts : List Span) → break_value (item_from ts 0) ≡ first_title ts
 first-number [] = refl
 first-number (t ∷ ts) = refl
 
 set_first : {s : List ℕ} {p n : ℕ} (x : Items (DefLineElement s) s p n)
-    → first_given (title_from (flat_map (titles_in s) (take 1 (elements_left s p))) 0) ≡ first_line x
+    → break_value (item_from (flat_map (titles_in s) (take 1 (elements_left s p))) 0) ≡ first_line x
 unfolding flat_map
 set_first {s} {p} (E.close c e) = rw (none_left s p c)
 set_first {s} {p} (E.item {q} line rest) =
     rw (element_next s p q (whole-next s (line_whole s) p q line), append-nil)
-    (ap (λ (ts : List Span). first_given (title_from ts 0)) (line_titles_lem s line) ∙ first-number (line_titles line))
+    (ap (λ (ts : List Span). break_value (item_from ts 0)) (line_titles_lem s line) ∙ first-number (line_titles line))
 
 -- ---- identifiers
 
@@ -172,11 +169,11 @@ module _ (header : List ℕ) (start end : ℕ) (good : GoodRecord header start e
   titles_are = set_titles_lem (take end header) good.shape.items
 
   -- the title call gives title k of those that a good record writes, or 10
-  pub title-is : (k : ℕ) → title_of header start end k ≡ numbered (titles_written good) k T.Title (λ _. T.Refused NoSuchSequence)
+  pub title-is : (k : ℕ) → title_of header start end k ≡ numbered (titles_written good) k Ok (λ _. Err NoSuchSequence)
   title-is k =
       sym (title_passed header start end k _ (good-passes header start end good) refl)
-      ∙ numbered_then title_given A.Found A.Left (titles_of (take end header) start) k
-      ∙ ap (λ (ts : List Span). numbered ts k T.Title (λ _. T.Refused NoSuchSequence)) titles_are
+      ∙ numbered_then title_given Break Continue (titles_of (take end header) start) k
+      ∙ ap (λ (ts : List Span). numbered ts k Ok (λ _. Err NoSuchSequence)) titles_are
 
   identifiers_known : map (identifier_at (take end header)) (identifiers_of (take end header) start) ≡ identifiers_written good
   unfolding identifiers_of
@@ -186,19 +183,19 @@ module _ (header : List ℕ) (start end : ℕ) (good : GoodRecord header start e
   identifiers_count = simp length-map at (ap length identifiers_known)
 
   -- the identifier call gives identifier k of those that a good record writes, or 10
-  pub identifier_is : (k : ℕ) → identifier_of header start end k ≡ numbered (identifiers_written good) k I.Found (λ _. I.Refused NoSuchSequence)
+  pub identifier_is : (k : ℕ) → identifier_of header start end k ≡ numbered (identifiers_written good) k Ok (λ _. Err NoSuchSequence)
   identifier_is k =
       let s = take end header in
       let places = identifiers_of s start in
-      let none : ℕ → IdentifierAnswer = λ _. I.Refused NoSuchSequence in
+      let none : ℕ → Result Identifier Refusal = λ _. Err NoSuchSequence in
       sym (identifier_passed header start end k _ (good-passes header start end good) refl)
-      ∙ numbered_then (identifier_given s) P.Found P.Left places k
-      ∙ sym (numbered-map (identifier_at s) I.Found none places k)
-      ∙ ap (λ (xs : List Identifier). numbered xs k I.Found none) identifiers_known
+      ∙ numbered_then (identifier_given s) Break Continue places k
+      ∙ sym (numbered-map (identifier_at s) Ok none places k)
+      ∙ ap (λ (xs : List Identifier). numbered xs k Ok none) identifiers_known
 
   -- the first title call gives the title of the first def-line that a good record writes
-  pub first-is : first_of header start end ≡ first_written good
+  pub first-is : first_of header start end ≡ Ok (first_written good)
   unfolding first_titles
   first-is =
       sym (first_passed header start end _ (good-passes header start end good) refl)
-      ∙ set_first good.shape.items
+      ∙ ap Ok (set_first good.shape.items)

@@ -1,14 +1,9 @@
 -- Document 01's number and the values of each answer of this crate.
 -- Assumes nothing.
-use Rattle.std.specs.Prelude.{ℕ, List, [], ◌∷◌, ◌++◌, ℤ, pos}
+use Rattle.std.specs.Prelude.{ℕ, List, [], ◌∷◌, ◌++◌, ℤ, pos, Option, Some, None, Result, Ok, Err}
 use Rattle.answers.specs.Numbers.{number_of}
+use Rattle.answers.specs.declared.Refusal.{Refusal}
 use Rattle.elements.specs.declared.Span.{Span}
-use Rattle.deflines.specs.declared.TitleAnswer.{TitleAnswer}
-use Rattle.deflines.specs.declared.TitleAnswer.TheVariants as T
-use Rattle.deflines.specs.declared.OptionalText.{OptionalText}
-use Rattle.deflines.specs.declared.OptionalText.TheVariants as O
-use Rattle.deflines.specs.declared.OptionalInteger.{OptionalInteger}
-use Rattle.deflines.specs.declared.OptionalInteger.TheVariants as J
 use Rattle.deflines.specs.declared.ObjectId.{ObjectId}
 use Rattle.deflines.specs.declared.ObjectId.TheVariants as B
 use Rattle.deflines.specs.declared.TextId.{TextId}
@@ -18,24 +13,20 @@ use Rattle.deflines.specs.declared.PatentNumber.TheVariants as A
 use Rattle.deflines.specs.declared.Patent.{Patent}
 use Rattle.deflines.specs.declared.DatabaseTag.{DatabaseTag}
 use Rattle.deflines.specs.declared.DateFields.{DateFields}
-use Rattle.deflines.specs.declared.OptionalDate.{OptionalDate}
-use Rattle.deflines.specs.declared.OptionalDate.TheVariants as E
+use Rattle.deflines.specs.declared.Date.{Date}
+use Rattle.deflines.specs.declared.Date.TheVariants as E
 use Rattle.deflines.specs.declared.Structure.{Structure}
 use Rattle.deflines.specs.declared.Identifier.{Identifier}
 use Rattle.deflines.specs.declared.Identifier.TheVariants as D
-use Rattle.deflines.specs.declared.IdentifierAnswer.{IdentifierAnswer}
-use Rattle.deflines.specs.declared.IdentifierAnswer.TheVariants as I
-use Rattle.deflines.specs.declared.FirstAnswer.{FirstAnswer}
-use Rattle.deflines.specs.declared.FirstAnswer.TheVariants as G
 
-abbrev pub title_number : TitleAnswer → ℕ
-title_number (T.Title t) = 0
-title_number (T.Refused r) = number_of r
+abbrev pub title_number : Result Span Refusal → ℕ
+title_number (Ok t) = 0
+title_number (Err r) = number_of r
 
 -- A title's start and length.
-abbrev pub title_values : TitleAnswer → List ℕ
-title_values (T.Title t) = t.start ∷ t.len ∷ []
-title_values (T.Refused r) = []
+abbrev pub title_values : Result Span Refusal → List ℕ
+title_values (Ok t) = t.start ∷ t.len ∷ []
+title_values (Err r) = []
 
 -- A value of an identifier: a number, or that an optional field is absent.
 pub data Value : Type 0 where
@@ -50,13 +41,13 @@ abbrev pub text_values : Span → List Value
 text_values t = counted t.start ∷ counted t.len ∷ []
 
 -- An optional field's values: those of its text or integer, or that it is absent.
-abbrev pub optional_text_values : OptionalText → List Value
-optional_text_values O.Absent = absent ∷ []
-optional_text_values (O.Text t) = text_values t
+abbrev pub optional_text_values : Option Span → List Value
+optional_text_values None = absent ∷ []
+optional_text_values (Some t) = text_values t
 
-abbrev pub optional_integer_value : OptionalInteger → Value
-optional_integer_value J.Absent = absent
-optional_integer_value (J.Integer z) = number z
+abbrev pub optional_integer_value : Option ℤ → Value
+optional_integer_value None = absent
+optional_integer_value (Some z) = number z
 
 -- An object-id's values: 0 and the number, or 1 and the text.
 abbrev pub object_id_values : ObjectId → List Value
@@ -87,10 +78,10 @@ date_fields_values x =
     ∷ optional_text_values x.season ++ (optional_integer_value x.hour ∷ optional_integer_value x.minute ∷ optional_integer_value x.second ∷ [])
 
 -- A date's values: that it is absent, 0 and its text, or 1 and its fields.
-abbrev pub date_values : OptionalDate → List Value
-date_values E.Absent = absent ∷ []
-date_values (E.Text t) = counted 0 ∷ text_values t
-date_values (E.Fields x) = counted 1 ∷ date_fields_values x
+abbrev pub date_values : Option Date → List Value
+date_values None = absent ∷ []
+date_values (Some (E.Text t)) = counted 0 ∷ text_values t
+date_values (Some (E.Fields x)) = counted 1 ∷ date_fields_values x
 
 abbrev pub structure_values : Structure → List Value
 structure_values x = text_values x.mol ++ (number x.chain ∷ date_values x.release)
@@ -118,21 +109,21 @@ values_of (D.Tpd x) = counted 177 ∷ text_id_values x
 values_of (D.Gpipe x) = counted 178 ∷ text_id_values x
 values_of (D.NamedAnnotTrack x) = counted 179 ∷ text_id_values x
 
-abbrev pub identifier_number : IdentifierAnswer → ℕ
-identifier_number (I.Found i) = 0
-identifier_number (I.Refused r) = number_of r
+abbrev pub identifier_number : Result Identifier Refusal → ℕ
+identifier_number (Ok i) = 0
+identifier_number (Err r) = number_of r
 
-abbrev pub identifier_values : IdentifierAnswer → List Value
-identifier_values (I.Found i) = values_of i
-identifier_values (I.Refused r) = []
+abbrev pub identifier_values : Result Identifier Refusal → List Value
+identifier_values (Ok i) = values_of i
+identifier_values (Err r) = []
 
-abbrev pub first_number : FirstAnswer → ℕ
-first_number (G.Title t) = 0
-first_number G.Untitled = 0
-first_number (G.Refused r) = number_of r
+abbrev pub first_number : Result (Option Span) Refusal → ℕ
+first_number (Ok (Some t)) = 0
+first_number (Ok None) = 0
+first_number (Err r) = number_of r
 
 -- The start and the length of the first def-line's title, where it has one.
-abbrev pub first_values : FirstAnswer → List ℕ
-first_values (G.Title t) = t.start ∷ t.len ∷ []
-first_values G.Untitled = []
-first_values (G.Refused r) = []
+abbrev pub first_values : Result (Option Span) Refusal → List ℕ
+first_values (Ok (Some t)) = t.start ∷ t.len ∷ []
+first_values (Ok None) = []
+first_values (Err r) = []

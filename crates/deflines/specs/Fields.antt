@@ -1,33 +1,24 @@
 -- What stands inside a record: its def-lines, their fields, titles and identifiers, from left to right. Places are counted in the header file.
 -- Assumes nothing.
-use Rattle.std.specs.Prelude.{ℕ, zero, suc, ◌+◌, cond, length, get_or, take, eqb}
+use Rattle.std.specs.Prelude.{ℕ, zero, suc, ◌+◌, cond, length, get_or, take, eqb, Option, Some, None, Result, Ok, Err}
+use Rattle.answers.specs.declared.Refusal.{Refusal}
 use mathlib.Core.List.{List, [], ◌∷◌, flat_map}
+use Rattle.std.specs.Result.{result_ok}
 use Rattle.elements.specs.declared.Span.{Span}
-use Rattle.elements.specs.declared.SpanAnswer.{SpanAnswer}
-use Rattle.elements.specs.declared.SpanAnswer.TheVariants as S
-use Rattle.elements.specs.declared.ElementAnswer.{ElementAnswer}
-use Rattle.elements.specs.declared.ElementAnswer.TheVariants.{End, Refused}
 use Rattle.elements.specs.declared.Form.TheVariants.{Any}
 use Rattle.elements.specs.Parts.{text_at}
 use Rattle.elements.specs.Reading.{closes, read}
-use Rattle.deflines.specs.declared.Next.{Next}
-use Rattle.deflines.specs.declared.Next.TheVariants as N
 use Rattle.deflines.specs.declared.Field.{Field}
 use Rattle.deflines.specs.declared.Field.TheVariants as F
 
--- What comes next in a list, by what is read there.
-abbrev pub next_read : ElementAnswer → Next
-next_read (End n) = N.Element n
-next_read (Refused r) = N.NoMore
-
--- What comes next in a list, from a place on: no more at 00 00, or where no element is read.
-unfoldable pub next_at : List ℕ → ℕ → Next
-next_at s p = cond (closes s p) N.NoMore (next_read (read 16 Any s p))
+-- Where the element at a place of a list ends: none at 00 00, or where no element is read.
+unfoldable pub next_at : List ℕ → ℕ → Option ℕ
+next_at s p = cond (closes s p) None (result_ok (read 16 Any s p))
 
 -- The places from what comes next on.
-abbrev pub from_next : Next → (ℕ → List ℕ) → List ℕ
-from_next (N.Element n) more = more n
-from_next N.NoMore more = []
+abbrev pub from_next : Option ℕ → (ℕ → List ℕ) → List ℕ
+from_next (Some n) more = more n
+from_next None more = []
 
 -- The places of the next elements, so many at most.
 unfoldable pub elements_from : ℕ → List ℕ → ℕ → List ℕ
@@ -43,9 +34,9 @@ abbrev pub elements_in : List ℕ → ℕ → List ℕ
 elements_in s at = elements_left s (at + 2)
 
 -- A title field holds a text.
-abbrev pub title_field : SpanAnswer → Field
-title_field (S.Part t) = F.Title t
-title_field (S.Refused r) = F.Other
+abbrev pub title_field : Result Span Refusal → Field
+title_field (Ok t) = F.Title t
+title_field (Err r) = F.Other
 
 -- The field of a def-line at a place, by its tag: A0 is the title, A1 the list of identifiers; behind a tag stands 80, then what it holds.
 unfoldable pub field_at : List ℕ → ℕ → Field

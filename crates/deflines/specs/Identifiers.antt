@@ -2,20 +2,13 @@
 -- stands 80, then what the field holds. What a place or a required field has to hold is there in such a record (`identifier_is`): the answers for where
 -- it is not, an empty text and 0, are never given.
 -- Assumes nothing.
-use Rattle.std.specs.Prelude.{ℕ, ◌+◌, cond, get_or, eqb, ℤ, pos}
-use mathlib.Core.List.{List, [], ◌∷◌, flat_map}
+use Rattle.std.specs.Prelude.{ℕ, ◌+◌, cond, get_or, eqb, ℤ, pos, Option, Some, None}
+use mathlib.Core.List.{List}
+use Rattle.std.specs.List.{find}
+use Rattle.std.specs.Option.{option_map, unwrap_or}
+use Rattle.std.specs.Result.{result_unwrap_or}
 use Rattle.elements.specs.declared.Span.{Span}
-use Rattle.elements.specs.declared.SpanAnswer.{SpanAnswer}
-use Rattle.elements.specs.declared.SpanAnswer.TheVariants as S
-use Rattle.elements.specs.declared.IntegerAnswer.{IntegerAnswer}
-use Rattle.elements.specs.declared.IntegerAnswer.TheVariants as N
 use Rattle.elements.specs.Parts.{span, integer_at, text_at}
-use Rattle.deflines.specs.declared.PlaceSearch.{PlaceSearch}
-use Rattle.deflines.specs.declared.PlaceSearch.TheVariants as P
-use Rattle.deflines.specs.declared.OptionalText.{OptionalText}
-use Rattle.deflines.specs.declared.OptionalText.TheVariants as T
-use Rattle.deflines.specs.declared.OptionalInteger.{OptionalInteger}
-use Rattle.deflines.specs.declared.OptionalInteger.TheVariants as I
 use Rattle.deflines.specs.declared.ObjectId.{ObjectId}
 use Rattle.deflines.specs.declared.ObjectId.TheVariants as O
 use Rattle.deflines.specs.declared.TextId.{TextId}
@@ -25,57 +18,42 @@ use Rattle.deflines.specs.declared.PatentNumber.TheVariants as A
 use Rattle.deflines.specs.declared.Patent.{Patent}
 use Rattle.deflines.specs.declared.DatabaseTag.{DatabaseTag}
 use Rattle.deflines.specs.declared.DateFields.{DateFields}
-use Rattle.deflines.specs.declared.OptionalDate.{OptionalDate}
-use Rattle.deflines.specs.declared.OptionalDate.TheVariants as E
+use Rattle.deflines.specs.declared.Date.{Date}
+use Rattle.deflines.specs.declared.Date.TheVariants as E
 use Rattle.deflines.specs.declared.Structure.{Structure}
 use Rattle.deflines.specs.declared.Identifier.{Identifier}
 use Rattle.deflines.specs.declared.Identifier.TheVariants as D
-use Rattle.deflines.specs.Numbered.{place_from}
 use Rattle.deflines.specs.Fields.{elements_in}
 
 -- ---- texts and integers
 
-abbrev pub text_or : SpanAnswer → Span
-text_or (S.Part t) = t
-text_or (S.Refused r) = span 0 0
-
-abbrev pub integer_or : IntegerAnswer → ℤ
-integer_or (N.Integer z) = z
-integer_or (N.Refused r) = pos 0
-
 -- The text and the integer at a place.
 abbrev pub text_held : List ℕ → ℕ → Span
-text_held s p = text_or (text_at s p)
+text_held s p = result_unwrap_or (text_at s p) (span 0 0)
 
 abbrev pub integer_held : List ℕ → ℕ → ℤ
-integer_held s p = integer_or (integer_at s p)
+integer_held s p = result_unwrap_or (integer_at s p) (pos 0)
 
 -- ---- fields by their tags
 
--- The place of an element, where it has the tag.
-abbrev pub with_tag : List ℕ → ℕ → ℕ → List ℕ
-with_tag s tag p = cond (eqb (get_or s p 0) tag) (p ∷ []) []
-
 -- The place of the field with a tag, of the record at a place.
-unfoldable pub field_in : List ℕ → ℕ → ℕ → PlaceSearch
-field_in s list tag = place_from (flat_map (with_tag s tag) (elements_in s list)) 0
+unfoldable pub field_in : List ℕ → ℕ → ℕ → Option ℕ
+field_in s list tag = find (λ p. eqb (get_or s p 0) tag) (elements_in s list)
 
 -- What a required field holds stands behind its tag and 80.
-abbrev pub held_at : ℕ → PlaceSearch → ℕ
-held_at list (P.Found p) = p + 2
-held_at list (P.Left k) = list
+abbrev pub held_at : ℕ → Option ℕ → ℕ
+held_at list (Some p) = p + 2
+held_at list None = list
 
 abbrev pub held_in : List ℕ → ℕ → ℕ → ℕ
 held_in s list tag = held_at list (field_in s list tag)
 
 -- A text and an integer that may be left out.
-abbrev pub optional_text : List ℕ → PlaceSearch → OptionalText
-optional_text s (P.Found p) = T.Text (text_held s (p + 2))
-optional_text s (P.Left k) = T.Absent
+abbrev pub optional_text : List ℕ → Option ℕ → Option Span
+optional_text s found = option_map (λ p. text_held s (p + 2)) found
 
-abbrev pub optional_integer : List ℕ → PlaceSearch → OptionalInteger
-optional_integer s (P.Found p) = I.Integer (integer_held s (p + 2))
-optional_integer s (P.Left k) = I.Absent
+abbrev pub optional_integer : List ℕ → Option ℕ → Option ℤ
+optional_integer s found = option_map (λ p. integer_held s (p + 2)) found
 
 -- ---- the bodies of identifiers
 
@@ -134,18 +112,16 @@ date_fields_at s p =
     }
 
 -- Date: A0 and a text, or A1 and a Date-std.
-unfoldable pub date_at : List ℕ → ℕ → OptionalDate
+unfoldable pub date_at : List ℕ → ℕ → Date
 date_at s p = cond (eqb (get_or s p 0) 160) (E.Text (text_held s (p + 2))) (E.Fields (date_fields_at s (p + 2)))
 
 -- A date that may be left out.
-abbrev pub optional_date : List ℕ → PlaceSearch → OptionalDate
-optional_date s (P.Found p) = date_at s (p + 2)
-optional_date s (P.Left k) = E.Absent
+abbrev pub optional_date : List ℕ → Option ℕ → Option Date
+optional_date s found = option_map (λ p. date_at s (p + 2)) found
 
 -- A chain; one that is absent is 32.
-abbrev pub chain_of : OptionalInteger → ℤ
-chain_of I.Absent = pos 32
-chain_of (I.Integer z) = z
+abbrev pub chain_of : Option ℤ → ℤ
+chain_of chain = unwrap_or chain (pos 32)
 
 -- PDB-seq-id.
 unfoldable pub structure_at : List ℕ → ℕ → Structure

@@ -1,17 +1,13 @@
 -- What an identifier writes by the plain statement, kind by kind: the values of its body's fields. A field that is absent is told apart from one that
 -- holds an empty text.
 -- Assumes nothing.
-use Rattle.std.specs.Prelude.{List, ℕ}
+use Rattle.std.specs.Prelude.{List, ℕ, ℤ, Option, Some, None}
 use Rattle.elements.specs.Statement.{IntegerElement, TextElement, ChoiceElement, Maybe}
 use Rattle.elements.specs.Statement as E
 use Rattle.elements.specs.DefLines.{DateStdElement, DateElement, PatentNumberElement, PdbSeqIdElement, GiimportIdElement, TextseqIdElement}
 use Rattle.elements.specs.DefLines.{PatentSeqIdElement, ObjectIdElement, DbtagElement, IdentifierElement}
 use Rattle.elements.specs.DefLines as Z
 use Rattle.elements.specs.Written.{text_written, integer_written}
-use Rattle.deflines.specs.declared.OptionalText.{OptionalText}
-use Rattle.deflines.specs.declared.OptionalText.TheVariants as T
-use Rattle.deflines.specs.declared.OptionalInteger.{OptionalInteger}
-use Rattle.deflines.specs.declared.OptionalInteger.TheVariants as I
 use Rattle.deflines.specs.declared.ObjectId.{ObjectId}
 use Rattle.deflines.specs.declared.ObjectId.TheVariants as O
 use Rattle.deflines.specs.declared.TextId.{TextId}
@@ -21,21 +17,22 @@ use Rattle.deflines.specs.declared.PatentNumber.TheVariants as A
 use Rattle.deflines.specs.declared.Patent.{Patent}
 use Rattle.deflines.specs.declared.DatabaseTag.{DatabaseTag}
 use Rattle.deflines.specs.declared.DateFields.{DateFields}
-use Rattle.deflines.specs.declared.OptionalDate.{OptionalDate}
-use Rattle.deflines.specs.declared.OptionalDate.TheVariants as G
+use Rattle.elements.specs.declared.Span.{Span}
+use Rattle.deflines.specs.declared.Date.{Date}
+use Rattle.deflines.specs.declared.Date.TheVariants as G
 use Rattle.deflines.specs.declared.Structure.{Structure}
 use Rattle.deflines.specs.declared.Identifier.{Identifier}
 use Rattle.deflines.specs.declared.Identifier.TheVariants as D
 use Rattle.deflines.specs.Identifiers.{chain_of}
 
 -- A field that may be left out.
-abbrev pub text_given : {s : List ℕ} {tag p q : ℕ} → Maybe (ChoiceElement (TextElement s) s tag) p q → OptionalText
-text_given (E.given c) = T.Text (text_written c.one)
-text_given (E.absent e) = T.Absent
+abbrev pub text_given : {s : List ℕ} {tag p q : ℕ} → Maybe (ChoiceElement (TextElement s) s tag) p q → Option Span
+text_given (E.given c) = Some (text_written c.one)
+text_given (E.absent e) = None
 
-abbrev pub integer_given : {s : List ℕ} {tag p q : ℕ} → Maybe (ChoiceElement (IntegerElement s) s tag) p q → OptionalInteger
-integer_given (E.given c) = I.Integer (integer_written c.one)
-integer_given (E.absent e) = I.Absent
+abbrev pub integer_given : {s : List ℕ} {tag p q : ℕ} → Maybe (ChoiceElement (IntegerElement s) s tag) p q → Option ℤ
+integer_given (E.given c) = Some (integer_written c.one)
+integer_given (E.absent e) = None
 
 -- Object-id: id, or str.
 abbrev pub object_id_written : {s : List ℕ} {at n : ℕ} → ObjectIdElement s at n → ObjectId
@@ -112,13 +109,13 @@ date_fields_written x =
     }
 
 -- Date: str, or std.
-abbrev pub date_written : {s : List ℕ} {at n : ℕ} → DateElement s at n → OptionalDate
+abbrev pub date_written : {s : List ℕ} {at n : ℕ} → DateElement s at n → Date
 date_written (E.first c) = G.Text (text_written c.one)
 date_written (E.second c) = G.Fields (date_fields_written c.one)
 
-abbrev pub date_given : {s : List ℕ} {tag p q : ℕ} → Maybe (ChoiceElement (DateElement s) s tag) p q → OptionalDate
-date_given (E.given c) = date_written c.one
-date_given (E.absent e) = G.Absent
+abbrev pub date_given : {s : List ℕ} {tag p q : ℕ} → Maybe (ChoiceElement (DateElement s) s tag) p q → Option Date
+date_given (E.given c) = Some (date_written c.one)
+date_given (E.absent e) = None
 
 -- PDB-seq-id: mol, chain (32 where it is absent), rel.
 abbrev pub structure_written : {s : List ℕ} {at n : ℕ} → PdbSeqIdElement s at n → Structure

@@ -1,6 +1,6 @@
 -- The titles and the identifiers that a good record writes, by the plain statement: from left to right over all def-lines.
 -- Assumes nothing.
-use Rattle.std.specs.Prelude.{List, [], ◌∷◌, ◌++◌, ℕ}
+use Rattle.std.specs.Prelude.{List, [], ◌∷◌, ◌++◌, ℕ, Option, Some, None}
 use Rattle.elements.specs.declared.Span.{Span}
 use Rattle.elements.specs.Statement.{TextElement, Items, ListElement, ChoiceElement, Maybe}
 use Rattle.elements.specs.Statement as E
@@ -8,8 +8,6 @@ use Rattle.elements.specs.DefLines.{IdentifierElement, DefLineElement}
 use Rattle.elements.specs.Written.{text_written}
 use Rattle.headers.specs.Statement.{GoodRecord}
 use Rattle.deflines.specs.declared.Identifier.{Identifier}
-use Rattle.deflines.specs.declared.FirstAnswer.{FirstAnswer}
-use Rattle.deflines.specs.declared.FirstAnswer.TheVariants as G
 use Rattle.deflines.specs.Kinds.{identifier_written}
 
 -- A def-line writes a title where its first field is given.
@@ -28,15 +26,15 @@ abbrev pub titles_written : {header : List ℕ} {start end : ℕ} → GoodRecord
 titles_written good = set_titles good.shape.items
 
 -- The first def-line's title, where there is a def-line and it has one.
-abbrev pub first_title : List Span → FirstAnswer
-first_title [] = G.Untitled
-first_title (t ∷ ts) = G.Title t
+abbrev pub first_title : List Span → Option Span
+first_title [] = None
+first_title (t ∷ ts) = Some t
 
-abbrev pub first_line : {s : List ℕ} {p n : ℕ} → Items (DefLineElement s) s p n → FirstAnswer
-first_line (E.close c e) = G.Untitled
+abbrev pub first_line : {s : List ℕ} {p n : ℕ} → Items (DefLineElement s) s p n → Option Span
+first_line (E.close c e) = None
 first_line (E.item line rest) = first_title (line_titles line)
 
-abbrev pub first_written : {header : List ℕ} {start end : ℕ} → GoodRecord header start end → FirstAnswer
+abbrev pub first_written : {header : List ℕ} {start end : ℕ} → GoodRecord header start end → Option Span
 first_written good = first_line good.shape.items
 
 -- The identifiers of a list, and of a def-line: its second field's, where that is given.

@@ -1,39 +1,22 @@
 // The def-lines of a record that passes its check: titles and identifiers.
 #![tactic(auto)]
 
+mod inside;
 mod values;
 
-ghost use Rattle.std.specs.Prelude.{◌≡◌, ◌+◌, ◌≤◌, length};
-ghost use Rattle.deflines.specs.Fields.{next_at, elements_in, field_at, titles_in, titles_of, identifiers_in, identifiers_of, first_titles};
-ghost use Rattle.deflines.specs.Numbered.{title_from, place_from};
+ghost use Rattle.std.specs.Prelude.{◌≡◌, [], ◌∷◌, ◌+◌, ◌≤◌, length};
+ghost use Rattle.std.specs.ControlFlow.{break_value};
+ghost use Rattle.deflines.specs.Fields.{elements_in, field_at, field_identifiers, titles_in, titles_of, identifiers_in, identifiers_of, first_titles};
+ghost use Rattle.deflines.specs.Numbered.{item_from};
 ghost use Rattle.deflines.specs.Calls.{title_of, identifier_of, first_of};
 
-use answers::{Checked, Refusal};
-use elements::{ElementAnswer, Form, Span, SpanAnswer};
+use answers::Refusal;
+use elements::Span;
+use inside::elements_in;
+use std::ops::ControlFlow;
 use values::identifier_at;
 
 // The titles given before a title, and the numbers of identifiers, count through all def-lines of a record.
-
-// The answer of the title call: a title's place in the header file.
-#[derive(Clone, Copy)]
-pub enum TitleAnswer {
-    Title(Span),
-    Refused(Refusal),
-}
-
-// A text of a body that may be left out.
-#[derive(Clone, Copy)]
-pub enum OptionalText {
-    Absent,
-    Text(Span),
-}
-
-// An integer of a body that may be left out.
-#[derive(Clone, Copy)]
-pub enum OptionalInteger {
-    Absent,
-    Integer(i64),
-}
 
 // An object-id, which tags or names anything: a number, or text in the header file.
 #[derive(Clone, Copy)]
@@ -45,18 +28,18 @@ pub enum ObjectId {
 // What a text id gives of its sequence.
 #[derive(Clone, Copy)]
 pub struct TextId {
-    pub name: OptionalText,
-    pub accession: OptionalText,
-    pub release: OptionalText,
-    pub version: OptionalInteger,
+    pub name: Option<Span>,
+    pub accession: Option<Span>,
+    pub release: Option<Span>,
+    pub version: Option<i64>,
 }
 
 // A sequence that was imported.
 #[derive(Clone, Copy)]
 pub struct Import {
     pub id: i64,
-    pub db: OptionalText,
-    pub release: OptionalText,
+    pub db: Option<Span>,
+    pub release: Option<Span>,
 }
 
 // The number of a patent, or of its application.
@@ -72,7 +55,7 @@ pub struct Patent {
     pub seqid: i64,
     pub country: Span,
     pub number: PatentNumber,
-    pub doc_type: OptionalText,
+    pub doc_type: Option<Span>,
 }
 
 // A tag in another database.
@@ -86,18 +69,17 @@ pub struct DatabaseTag {
 #[derive(Clone, Copy)]
 pub struct DateFields {
     pub year: i64,
-    pub month: OptionalInteger,
-    pub day: OptionalInteger,
-    pub season: OptionalText,
-    pub hour: OptionalInteger,
-    pub minute: OptionalInteger,
-    pub second: OptionalInteger,
+    pub month: Option<i64>,
+    pub day: Option<i64>,
+    pub season: Option<Span>,
+    pub hour: Option<i64>,
+    pub minute: Option<i64>,
+    pub second: Option<i64>,
 }
 
-// A date that may be left out: its text, or its fields.
+// A date: its text, or its fields.
 #[derive(Clone, Copy)]
-pub enum OptionalDate {
-    Absent,
+pub enum Date {
     Text(Span),
     Fields(DateFields),
 }
@@ -107,7 +89,7 @@ pub enum OptionalDate {
 pub struct Structure {
     pub mol: Span,
     pub chain: i64,
-    pub release: OptionalDate,
+    pub release: Option<Date>,
 }
 
 // An identifier, by its kind in source 001.
@@ -135,21 +117,6 @@ pub enum Identifier {
     NamedAnnotTrack(TextId),
 }
 
-// The answer of the identifier call.
-#[derive(Clone, Copy)]
-pub enum IdentifierAnswer {
-    Found(Identifier),
-    Refused(Refusal),
-}
-
-// The answer of the first title call.
-#[derive(Clone, Copy)]
-pub enum FirstAnswer {
-    Title(Span),
-    Untitled,
-    Refused(Refusal),
-}
-
 // A field of a def-line: its title, the list of its identifiers, or another field.
 #[derive(Clone, Copy)]
 pub enum Field {
@@ -158,221 +125,135 @@ pub enum Field {
     Other,
 }
 
-// A title that was looked for: found, or so many are left to pass.
-#[derive(Clone, Copy)]
-pub enum TitleSearch {
-    Found(Span),
-    Left(u64),
-}
-
-// A place that was looked for: found, or so many are left to pass.
-#[derive(Clone, Copy)]
-pub enum PlaceSearch {
-    Found(usize),
-    Left(u64),
-}
-
-// What comes next in a list: an element, which ends at a place, or no more.
-#[derive(Clone, Copy)]
-pub enum Next {
-    Element(usize),
-    NoMore,
-}
-
-// What comes next in a list, from a place on.
-pub(crate) fn next_element(s: &[u8], p: usize) -> Next
-    ensures { result ≡ next_at s.now p }
-{
-    if elements::closes_at(s, p) {
-        return Next::NoMore;
-    }
-    match elements::element(s, p, Form::Any) {
-        ElementAnswer::Refused(_) => Next::NoMore,
-        ElementAnswer::End(n) => Next::Element(n),
-    }
-}
-
 // The field of a def-line at a place.
+#[tactic(auto, unfolding(crate::specs::Fields::field_at))]
 fn field_at(s: &[u8], p: usize) -> Field
     requires { p + 2 ≤ length s.now }
     ensures { result ≡ field_at s.now p }
 {
-    let b = fields::byte(s, p);
-    if b == 161 {
-        return Field::Identifiers(p + 2);
+    match fields::byte(s, p) {
+        160 => elements::text(s, p + 2).map_or(Field::Other, |t| Field::Title(t)),
+        161 => Field::Identifiers(p + 2),
+        _ => Field::Other,
     }
-    if b != 160 {
-        return Field::Other;
+}
+
+// The item itself where none is left to pass; else one less is left.
+fn pass<T: Copy>(item: T, left: u64) -> ControlFlow<T, u64>
+    ensures { result ≡ item_from (item ∷ []) left }
+{
+    if left == 0 {
+        return ControlFlow::Break(item);
     }
-    match elements::text(s, p + 2) {
-        SpanAnswer::Refused(_) => Field::Other,
-        SpanAnswer::Part(t) => Field::Title(t),
-    }
+    ControlFlow::Continue(left - 1)
 }
 
 // The title after k others of the def-line at a place: the walk stops for titles and steps past every other field.
-fn title_in_line(s: &[u8], line: usize, k: u64) -> TitleSearch
+fn title_in_line(s: &[u8], line: usize, k: u64) -> ControlFlow<Span, u64>
     requires { line + 2 ≤ length s.now }
-    ensures { result ≡ title_from (titles_in s.now line) k }
+    ensures { result ≡ item_from (titles_in s.now line) k }
 {
-    let mut p = line + 2;
     let mut left = k;
-    loop {
-        let Next::Element(end) = next_element(s, p) else {
-            return TitleSearch::Left(left);
-        };
-        let field = field_at(s, p);
-        p = end;
-        let Field::Title(t) = field else {
+    for p in elements_in(s, line) {
+        let Field::Title(t) = field_at(s, p) else {
             continue;
         };
-        if left == 0 {
-            return TitleSearch::Found(t);
-        }
-        left -= 1;
+        left = pass(t, left)?;
     }
+    ControlFlow::Continue(left)
 }
 
 // The title after k others of the record at a place.
-fn title_in_record(s: &[u8], start: usize, k: u64) -> TitleSearch
+fn title_in_record(s: &[u8], start: usize, k: u64) -> ControlFlow<Span, u64>
     requires { start + 2 ≤ length s.now }
-    ensures { result ≡ title_from (titles_of s.now start) k }
+    ensures { result ≡ item_from (titles_of s.now start) k }
 {
-    let mut p = start + 2;
-    let mut left = k;
-    loop {
-        let Next::Element(end) = next_element(s, p) else {
-            return TitleSearch::Left(left);
-        };
-        let found = title_in_line(s, p, left);
-        let TitleSearch::Left(rest) = found else {
-            return found;
-        };
-        left = rest;
-        p = end;
-    }
+    elements_in(s, start).try_fold(k, |left, line| title_in_line(s, line, left))
 }
 
 // The place of the element after k others of the list at a place.
-fn element_in_list(s: &[u8], list: usize, k: u64) -> PlaceSearch
+fn element_in_list(s: &[u8], list: usize, k: u64) -> ControlFlow<usize, u64>
     requires { list ≤ length s.now }
-    ensures { result ≡ place_from (elements_in s.now list) k }
+    ensures { result ≡ item_from (elements_in s.now list) k }
 {
-    let mut p = list + 2;
-    let mut left = k;
-    loop {
-        let Next::Element(end) = next_element(s, p) else {
-            return PlaceSearch::Left(left);
-        };
-        if left == 0 {
-            return PlaceSearch::Found(p);
-        }
-        left -= 1;
-        p = end;
+    elements_in(s, list).try_fold(k, |left, p| pass(p, left))
+}
+
+// The place of the identifier after k others of the field at a place.
+#[tactic(auto, using(crate::proofs::Fields::list_inside))]
+fn identifier_in_field(s: &[u8], p: usize, k: u64) -> ControlFlow<usize, u64>
+    requires { p + 2 ≤ length s.now }
+    ensures { result ≡ item_from (field_identifiers s.now (field_at s.now p)) k }
+{
+    match field_at(s, p) {
+        Field::Identifiers(list) => element_in_list(s, list, k),
+        _ => ControlFlow::Continue(k),
     }
 }
 
 // The place of the identifier after k others of the def-line at a place.
-fn identifier_in_line(s: &[u8], line: usize, k: u64) -> PlaceSearch
+fn identifier_in_line(s: &[u8], line: usize, k: u64) -> ControlFlow<usize, u64>
     requires { line + 2 ≤ length s.now }
-    ensures { result ≡ place_from (identifiers_in s.now line) k }
+    ensures { result ≡ item_from (identifiers_in s.now line) k }
 {
-    let mut p = line + 2;
-    let mut left = k;
-    loop {
-        let Next::Element(end) = next_element(s, p) else {
-            return PlaceSearch::Left(left);
-        };
-        let field = field_at(s, p);
-        p = end;
-        let Field::Identifiers(list) = field else {
-            continue;
-        };
-        let found = element_in_list(s, list, left);
-        let PlaceSearch::Left(rest) = found else {
-            return found;
-        };
-        left = rest;
-    }
+    elements_in(s, line).try_fold(k, |left, p| identifier_in_field(s, p, left))
 }
 
 // The place of the identifier after k others of the record at a place.
-fn identifier_in_record(s: &[u8], start: usize, k: u64) -> PlaceSearch
+fn identifier_in_record(s: &[u8], start: usize, k: u64) -> ControlFlow<usize, u64>
     requires { start + 2 ≤ length s.now }
-    ensures { result ≡ place_from (identifiers_of s.now start) k }
+    ensures { result ≡ item_from (identifiers_of s.now start) k }
 {
-    let mut p = start + 2;
-    let mut left = k;
-    loop {
-        let Next::Element(end) = next_element(s, p) else {
-            return PlaceSearch::Left(left);
-        };
-        let found = identifier_in_line(s, p, left);
-        let PlaceSearch::Left(rest) = found else {
-            return found;
-        };
-        left = rest;
-        p = end;
-    }
+    elements_in(s, start).try_fold(k, |left, line| identifier_in_line(s, line, left))
 }
 
 // The title after so many others of the record from start up to end of a header file.
-pub fn title(header: &[u8], start: u64, end: u64, given: u64) -> TitleAnswer
+#[tactic(auto, using(crate::proofs::Calls::passed_room, crate::proofs::Calls::passed_sized), unfolding(crate::specs::Calls::title_of))]
+pub fn title(header: &[u8], start: u64, end: u64, given: u64) -> Result<Span, Refusal>
     ensures { result ≡ title_of header.now start end given }
 {
-    match headers::check_record(header, start, end) {
-        Checked::Refused(r) => TitleAnswer::Refused(r),
-        Checked::Passed => {
-            let stop = end as usize;
-            match title_in_record(&header[..stop], start as usize, given) {
-                TitleSearch::Found(t) => TitleAnswer::Title(t),
-                TitleSearch::Left(_) => TitleAnswer::Refused(Refusal::NoSuchSequence),
-            }
-        }
-    }
+    headers::check_record(header, start, end)?;
+    let stop = end as usize;
+    title_in_record(&header[..stop], start as usize, given)
+        .break_value()
+        .ok_or(Refusal::NoSuchSequence)
 }
 
 // The identifier of a number, from 0 over all def-lines, of the record from start up to end of a header file.
-pub fn find_identifier(header: &[u8], start: u64, end: u64, number: u64) -> IdentifierAnswer
+#[tactic(auto, using(crate::proofs::Calls::passed_room, crate::proofs::Calls::passed_sized, crate::proofs::Identifiers::identifier_room), unfolding(crate::specs::Calls::identifier_of))]
+pub fn find_identifier(
+    header: &[u8],
+    start: u64,
+    end: u64,
+    number: u64,
+) -> Result<Identifier, Refusal>
     ensures { result ≡ identifier_of header.now start end number }
 {
-    match headers::check_record(header, start, end) {
-        Checked::Refused(r) => IdentifierAnswer::Refused(r),
-        Checked::Passed => {
-            let stop = end as usize;
-            let s = &header[..stop];
-            match identifier_in_record(s, start as usize, number) {
-                PlaceSearch::Found(p) => IdentifierAnswer::Found(identifier_at(s, p)),
-                PlaceSearch::Left(_) => IdentifierAnswer::Refused(Refusal::NoSuchSequence),
-            }
-        }
+    headers::check_record(header, start, end)?;
+    let stop = end as usize;
+    let s = &header[..stop];
+    match identifier_in_record(s, start as usize, number) {
+        ControlFlow::Break(p) => Ok(identifier_at(s, p)),
+        ControlFlow::Continue(_) => Err(Refusal::NoSuchSequence),
     }
 }
 
 // The title of the first def-line of the record at a place.
-fn title_in_first(s: &[u8], start: usize) -> TitleSearch
+#[tactic(auto, using(crate::proofs::Calls::line_room, crate::proofs::Calls::first_none, crate::proofs::Calls::first_line_lem))]
+fn title_in_first(s: &[u8], start: usize) -> Option<Span>
     requires { start + 2 ≤ length s.now }
-    ensures { result ≡ title_from (first_titles s.now start) 0 }
+    ensures { result ≡ break_value (item_from (first_titles s.now start) 0) }
 {
-    let found = element_in_list(s, start, 0);
-    let PlaceSearch::Found(line) = found else {
-        return TitleSearch::Left(0);
-    };
-    title_in_line(s, line, 0)
+    let line = element_in_list(s, start, 0).break_value()?;
+    title_in_line(s, line, 0).break_value()
 }
 
 // The first def-line's title, where it has one, of the record from start up to end of a header file.
-pub fn first_title(header: &[u8], start: u64, end: u64) -> FirstAnswer
+#[tactic(auto, using(crate::proofs::Calls::passed_room, crate::proofs::Calls::passed_sized), unfolding(crate::specs::Calls::first_of))]
+pub fn first_title(header: &[u8], start: u64, end: u64) -> Result<Option<Span>, Refusal>
     ensures { result ≡ first_of header.now start end }
 {
-    match headers::check_record(header, start, end) {
-        Checked::Refused(r) => FirstAnswer::Refused(r),
-        Checked::Passed => {
-            let stop = end as usize;
-            match title_in_first(&header[..stop], start as usize) {
-                TitleSearch::Found(t) => FirstAnswer::Title(t),
-                TitleSearch::Left(_) => FirstAnswer::Untitled,
-            }
-        }
-    }
+    headers::check_record(header, start, end)?;
+    let stop = end as usize;
+    Ok(title_in_first(&header[..stop], start as usize))
 }

@@ -2,12 +2,23 @@
 -- range as it was. An answer is a success, whose number is 0, or a refusal with its cause: so one law of causes serves all calls. Public functions
 -- without an answer, as `sequence_length` and `write_listing`, refuse nothing.
 -- Assumes nothing.
+use Rattle.metadata.specs.declared.Texts.{Texts}
+use Rattle.labels.specs.declared.Label.{Label}
+use Rattle.labels.specs.declared.Label.TheVariants.{InHeader, InIndex}
+use Rattle.deflines.specs.declared.Identifier.{Identifier}
+use Rattle.elements.specs.declared.Span.{Span}
+use Rattle.dsqdata.specs.declared.Located.{Located}
+use Rattle.volume.specs.declared.Index.{Index}
+use Rattle.volume.specs.declared.VolumeRecord.{VolumeRecord}
+use Rattle.runs.specs.declared.RunSize.{RunSize}
+use Rattle.std.specs.Prelude.{Err, None, Ok, Option, Result, Some}
 use mathlib.Core.Path.{◌≡◌, refl}
 use mathlib.Core.Bool.{true}
 use mathlib.Core.Logic.{inl, inr}
 use mathlib.Core.List.{List, []}
 use Prim.Native.Nat.{ℕ}
 use lib.Dec.{ltb}
+use lib.IntN.{ℤ}
 use lib.ListN.{length, get_or}
 use borrow.Author.Tests.{ltb-true}
 use Rattle.laws.specs.Writing.{written_at}
@@ -15,8 +26,6 @@ use Rattle.answers.specs.Limits.{checked_by}
 use Rattle.answers.specs.Numbers.{number_of, checked_number}
 use Rattle.answers.specs.declared.Refusal.{Refusal}
 use Rattle.answers.specs.declared.Refusal.TheVariants as R
-use Rattle.answers.specs.declared.Checked.{Checked}
-use Rattle.answers.specs.declared.Checked.TheVariants as Check
 use Rattle.fields.specs.declared.Order.{Order}
 use Rattle.packets.specs.Positions.{byte_of}
 use Rattle.packets.specs.Packing.{run}
@@ -25,55 +34,23 @@ use Rattle.packets.specs.Bytes.{packets_of, bytes_of}
 use Rattle.runs.specs.Answers.{pack_rules, pack_answer, pack_number, pack_values, if_packed, packets_after}
 use Rattle.runs.specs.Answers.{unpack_answer, unpack_number, unpack_values, if_unpacked, codes_after}
 use Rattle.byte_runs.specs.Bytes.{pack_bytes_answer, bytes_after, run_in, unpack_bytes_answer, codes_after_bytes}
-use Rattle.packets.specs.declared.RunLength.{RunLength}
-use Rattle.packets.specs.declared.RunLength.TheVariants as Run
-use Rattle.runs.specs.declared.PackAnswer.{PackAnswer}
-use Rattle.runs.specs.declared.PackAnswer.TheVariants as Pack
-use Rattle.runs.specs.declared.UnpackAnswer.{UnpackAnswer}
-use Rattle.runs.specs.declared.UnpackAnswer.TheVariants as Unpack
 use Rattle.volume.specs.Index.{index_answer, index_number, index_values}
 use Rattle.volume.specs.Volume.{volume_answer, volume_number, volume_values}
-use Rattle.volume.specs.declared.IndexAnswer.{IndexAnswer}
-use Rattle.volume.specs.declared.IndexAnswer.TheVariants as Index
-use Rattle.volume.specs.declared.VolumeAnswer.{VolumeAnswer}
-use Rattle.volume.specs.declared.VolumeAnswer.TheVariants as Volume
 use Rattle.sequence.specs.Sequence.{residues_of, decode_answer, written_by, decode_output, decode_number, decode_values}
-use Rattle.sequence.specs.declared.DecodeAnswer.{DecodeAnswer}
-use Rattle.sequence.specs.declared.DecodeAnswer.TheVariants as Decode
 use Rattle.listing.specs.Listing.{refused_text, listed_answer, answer_text, listing_text}
 use Rattle.metadata.specs.Record.{texts_in, texts_number, texts_values}
-use Rattle.metadata.specs.declared.Texts.{Texts}
-use Rattle.metadata.specs.declared.Texts.TheVariants as Metadata
 use Rattle.dsqdata.specs.Check.{set_check, set_number, set_values}
 use Rattle.dsqdata.specs.Lookup.{lookup_of, lookup_number, lookup_values}
 use Rattle.dsqdata.specs.declared.SetRecord.{SetRecord}
-use Rattle.dsqdata.specs.declared.SetAnswer.{SetAnswer}
-use Rattle.dsqdata.specs.declared.SetAnswer.TheVariants as Set
-use Rattle.dsqdata.specs.declared.LookupAnswer.{LookupAnswer}
-use Rattle.dsqdata.specs.declared.LookupAnswer.TheVariants as Lookup
 use Rattle.elements.specs.Answers.{element_number, element_values, span_number, span_values, integer_number, integer_values}
 use Rattle.elements.specs.Parts.{integer_at, text_at}
 use Rattle.elements.specs.Reading.{read}
 use Rattle.elements.specs.declared.Form.{Form}
-use Rattle.elements.specs.declared.ElementAnswer.{ElementAnswer}
-use Rattle.elements.specs.declared.ElementAnswer.TheVariants as Element
-use Rattle.elements.specs.declared.SpanAnswer.{SpanAnswer}
-use Rattle.elements.specs.declared.SpanAnswer.TheVariants as Span
-use Rattle.elements.specs.declared.IntegerAnswer.{IntegerAnswer}
-use Rattle.elements.specs.declared.IntegerAnswer.TheVariants as Integer
 use Rattle.headers.specs.Record.{check_record}
 use Rattle.deflines.specs.Calls.{title_of, identifier_of, first_of}
 use Rattle.deflines.specs.Answers.{title_number, title_values, identifier_number, identifier_values, first_number, first_values}
-use Rattle.deflines.specs.declared.TitleAnswer.{TitleAnswer}
-use Rattle.deflines.specs.declared.TitleAnswer.TheVariants as Title
-use Rattle.deflines.specs.declared.IdentifierAnswer.{IdentifierAnswer}
-use Rattle.deflines.specs.declared.IdentifierAnswer.TheVariants as Identifier
-use Rattle.deflines.specs.declared.FirstAnswer.{FirstAnswer}
-use Rattle.deflines.specs.declared.FirstAnswer.TheVariants as First
 use Rattle.labels.specs.Walker.{place, place_after, step_of, step_number, step_values}
 use Rattle.labels.specs.Label.{label_of, label_number, label_part}
-use Rattle.labels.specs.declared.LabelAnswer.{LabelAnswer}
-use Rattle.labels.specs.declared.LabelAnswer.TheVariants as Label
 use Rattle.console.specs.Results.{results_put}
 use Rattle.console.specs.Calls.{console_pack, console_buffer, pack_results, console_unpack, console_codes, unpack_results, console_volume, volume_results}
 use Rattle.console.proofs.Values.{put_nothing}
@@ -117,91 +94,91 @@ module _ {A : Type 0} where
   refused : (r : Refusal) → Answered {A = A} (number_of r) []
   refused r = record { numbered = inr (cause-numbered r); alone = λ n. refl }
 
--- ---- answers, case by case
+-- ---- answers, each by the numbers of its two cases
 
-checked_answered : (x : Checked) → Numbered (checked_number x)
-checked_answered Check.Passed = inl refl
-checked_answered (Check.Refused r) = inr (cause-numbered r)
+-- a call's number
+pub number_answered : {A : Type 0} (number : Result A Refusal → ℕ) → ((x : A) → number (Ok x) ≡ 0) → ((r : Refusal) → number (Err r) ≡ number_of r)
+    → (x : Result A Refusal) → Numbered (number x)
+number_answered number success own (Ok x) = inl (success x)
+number_answered number success own (Err r) = inr (rw (own r) (cause-numbered r))
 
-pack_answered : (x : PackAnswer) → Answered (pack_number x) (pack_values x)
-pack_answered (Pack.Packed n l) = fine (pack_values (Pack.Packed n l))
-pack_answered (Pack.Refused r) = refused r
+-- .. and its values
+answered : {A B : Type 0} (number : Result A Refusal → ℕ) (values : Result A Refusal → List B) → ((x : A) → number (Ok x) ≡ 0)
+    → ((r : Refusal) → number (Err r) ≡ number_of r) → ((r : Refusal) → values (Err r) ≡ [])
+    → (x : Result A Refusal) → Answered (number x) (values x)
+answered number values success own none (Ok x) = rw (success x) (fine (values (Ok x)))
+answered number values success own none (Err r) = rw (own r, none r) (refused r)
 
-unpack_answered : (x : UnpackAnswer) → Answered (unpack_number x) (unpack_values x)
-unpack_answered (Unpack.Unpacked n l) = fine (unpack_values (Unpack.Unpacked n l))
-unpack_answered (Unpack.Refused r) = refused r
+checked_answered : (x : Result Unit Refusal) → Numbered (checked_number x)
+checked_answered = number_answered checked_number (λ _. refl) (λ r. refl)
 
-run_answered : (x : RunLength) → Answered (run_number x) (run_values x)
-run_answered (Run.Residues l) = fine (run_values (Run.Residues l))
-run_answered Run.NoRun = refused R.BadRun
+run_answered : (x : Option ℕ) → Answered (run_number x) (run_values x)
+run_answered (Some l) = fine (run_values (Some l))
+run_answered None = refused R.BadRun
 
-index_answered : (x : IndexAnswer) → Answered (index_number x) (index_values x)
-index_answered (Index.Read x) = fine (index_values (Index.Read x))
-index_answered (Index.Refused r) = refused r
+texts_answered : (x : Option Texts) → Answered (texts_number x) (texts_values x)
+texts_answered (Some t) = fine (texts_values (Some t))
+texts_answered None = refused R.BadMetadata
 
-volume_answered : (x : VolumeAnswer) → Answered (volume_number x) (volume_values x)
-volume_answered (Volume.Passed v) = fine (volume_values (Volume.Passed v))
-volume_answered (Volume.Refused r) = refused r
+pack_answered : (x : Result RunSize Refusal) → Answered (pack_number x) (pack_values x)
+pack_answered = answered pack_number pack_values (λ x. refl) (λ r. refl) (λ r. refl)
 
-decode_answered : (x : DecodeAnswer) → Answered (decode_number x) (decode_values x)
-decode_answered (Decode.Decoded l) = fine (decode_values (Decode.Decoded l))
-decode_answered (Decode.Refused r) = refused r
+unpack_answered : (x : Result RunSize Refusal) → Answered (unpack_number x) (unpack_values x)
+unpack_answered = answered unpack_number unpack_values (λ x. refl) (λ r. refl) (λ r. refl)
 
-texts_answered : (x : Texts) → Answered (texts_number x) (texts_values x)
-texts_answered (Metadata.Lengths n a d) = fine (texts_values (Metadata.Lengths n a d))
-texts_answered Metadata.Bad = refused R.BadMetadata
+index_answered : (x : Result Index Refusal) → Answered (index_number x) (index_values x)
+index_answered = answered index_number index_values (λ x. refl) (λ r. refl) (λ r. refl)
 
-set_answered : (x : SetAnswer) → Answered (set_number x) (set_values x)
-set_answered (Set.Passed s) = fine (set_values (Set.Passed s))
-set_answered (Set.Refused r) = refused r
+volume_answered : (x : Result VolumeRecord Refusal) → Answered (volume_number x) (volume_values x)
+volume_answered = answered volume_number volume_values (λ x. refl) (λ r. refl) (λ r. refl)
 
-lookup_answered : (x : LookupAnswer) → Answered (lookup_number x) (lookup_values x)
-lookup_answered (Lookup.Found s b p n) = fine (lookup_values (Lookup.Found s b p n))
-lookup_answered (Lookup.Refused r) = refused r
+decode_answered : (x : Result ℕ Refusal) → Answered (decode_number x) (decode_values x)
+decode_answered = answered decode_number decode_values (λ x. refl) (λ r. refl) (λ r. refl)
 
-element_answered : (x : ElementAnswer) → Answered (element_number x) (element_values x)
-element_answered (Element.End n) = fine (element_values (Element.End n))
-element_answered (Element.Refused r) = refused r
+set_answered : (x : Result SetRecord Refusal) → Answered (set_number x) (set_values x)
+set_answered = answered set_number set_values (λ x. refl) (λ r. refl) (λ r. refl)
 
-span_answered : (x : SpanAnswer) → Answered (span_number x) (span_values x)
-span_answered (Span.Part t) = fine (span_values (Span.Part t))
-span_answered (Span.Refused r) = refused r
+lookup_answered : (x : Result Located Refusal) → Answered (lookup_number x) (lookup_values x)
+lookup_answered = answered lookup_number lookup_values (λ x. refl) (λ r. refl) (λ r. refl)
 
-integer_answered : (x : IntegerAnswer) → Answered (integer_number x) (integer_values x)
-integer_answered (Integer.Integer z) = fine (integer_values (Integer.Integer z))
-integer_answered (Integer.Refused r) = refused r
+element_answered : (x : Result ℕ Refusal) → Answered (element_number x) (element_values x)
+element_answered = answered element_number element_values (λ x. refl) (λ r. refl) (λ r. refl)
 
-title_answered : (x : TitleAnswer) → Answered (title_number x) (title_values x)
-title_answered (Title.Title t) = fine (title_values (Title.Title t))
-title_answered (Title.Refused r) = refused r
+span_answered : (x : Result Span Refusal) → Answered (span_number x) (span_values x)
+span_answered = answered span_number span_values (λ x. refl) (λ r. refl) (λ r. refl)
 
-identifier_answered : (x : IdentifierAnswer) → Answered (identifier_number x) (identifier_values x)
-identifier_answered (Identifier.Found i) = fine (identifier_values (Identifier.Found i))
-identifier_answered (Identifier.Refused r) = refused r
+integer_answered : (x : Result ℤ Refusal) → Answered (integer_number x) (integer_values x)
+integer_answered = answered integer_number integer_values (λ x. refl) (λ r. refl) (λ r. refl)
 
-first_answered : (x : FirstAnswer) → Answered (first_number x) (first_values x)
-first_answered (First.Title t) = fine (first_values (First.Title t))
-first_answered First.Untitled = fine []
-first_answered (First.Refused r) = refused r
+title_answered : (x : Result Span Refusal) → Answered (title_number x) (title_values x)
+title_answered = answered title_number title_values (λ x. refl) (λ r. refl) (λ r. refl)
 
-label_answered : (index header : List ℕ) (x : LabelAnswer) → Answered (label_number x) (label_part index header x)
-label_answered index header (Label.InHeader t) = fine (label_part index header (Label.InHeader t))
-label_answered index header (Label.InIndex t) = fine (label_part index header (Label.InIndex t))
-label_answered index header (Label.Refused r) = refused r
+identifier_answered : (x : Result Identifier Refusal) → Answered (identifier_number x) (identifier_values x)
+identifier_answered = answered identifier_number identifier_values (λ x. refl) (λ r. refl) (λ r. refl)
+
+first_answered : (x : Result (Option Span) Refusal) → Answered (first_number x) (first_values x)
+first_answered (Ok (Some t)) = fine (first_values (Ok (Some t)))
+first_answered (Ok None) = fine []
+first_answered (Err r) = refused r
+
+label_answered : (index header : List ℕ) (x : Result Label Refusal) → Answered (label_number x) (label_part index header x)
+label_answered index header (Ok (InHeader t)) = fine (label_part index header (Ok (InHeader t)))
+label_answered index header (Ok (InIndex t)) = fine (label_part index header (Ok (InIndex t)))
+label_answered index header (Err r) = refused r
 
 -- ---- what a refusal leaves
 
-packed_kept : (x : PackAnswer) (new old : List ℕ) → Kept (pack_number x) old (if_packed x new old)
-packed_kept (Pack.Packed n l) new old refuses = absurd (refuses refl)
-packed_kept (Pack.Refused r) new old refuses = refl
+packed_kept : (x : Result RunSize Refusal) (new old : List ℕ) → Kept (pack_number x) old (if_packed x new old)
+packed_kept (Ok size) new old refuses = absurd (refuses refl)
+packed_kept (Err r) new old refuses = refl
 
-unpacked_kept : (x : UnpackAnswer) (codes out : List ℕ) → Kept (unpack_number x) out (if_unpacked x codes out)
-unpacked_kept (Unpack.Unpacked n l) codes out refuses = absurd (refuses refl)
-unpacked_kept (Unpack.Refused r) codes out refuses = refl
+unpacked_kept : (x : Result RunSize Refusal) (codes out : List ℕ) → Kept (unpack_number x) out (if_unpacked x codes out)
+unpacked_kept (Ok size) codes out refuses = absurd (refuses refl)
+unpacked_kept (Err r) codes out refuses = refl
 
-decoded_kept : (x : DecodeAnswer) (residues out : List ℕ) → Kept (decode_number x) out (written_by x residues out)
-decoded_kept (Decode.Decoded l) residues out refuses = absurd (refuses refl)
-decoded_kept (Decode.Refused r) residues out refuses = refl
+decoded_kept : (x : Result ℕ Refusal) (residues out : List ℕ) → Kept (decode_number x) out (written_by x residues out)
+decoded_kept (Ok l) residues out refuses = absurd (refuses refl)
+decoded_kept (Err r) residues out refuses = refl
 
 -- a results range: a refusal has no values to put there
 results_kept : (number : ℕ) (values results : List ℕ) → Answered number values → Kept number results (results_put values results)
@@ -332,9 +309,9 @@ pub write_listing_call : (index sequence header : List ℕ) →
 unfolding listing_text
 write_listing_call index sequence header = shown (listed_answer index sequence header)
   where
-    shown : (x : VolumeAnswer) → Numbered (volume_number x) × (Refuses (volume_number x) → answer_text index sequence x ≡ refused_text (volume_number x))
-    shown (Volume.Passed v) = (inl refl, λ refuses. absurd (refuses refl))
-    shown (Volume.Refused r) = (inr (cause-numbered r), λ refuses. refl)
+    shown : (x : Result VolumeRecord Refusal) → Numbered (volume_number x) × (Refuses (volume_number x) → answer_text index sequence x ≡ refused_text (volume_number x))
+    shown (Ok v) = (inl refl, λ refuses. absurd (refuses refl))
+    shown (Err r) = (inr (cause-numbered r), λ refuses. refl)
 
 -- ---- sets
 
@@ -402,9 +379,9 @@ module _ (header : List ℕ) (start end : ℕ) where
   unfolding step_of
   step_call given = (title_answered (title_of header start end given), place_kept (title_of header start end given))
     where
-      place_kept : (x : TitleAnswer) → Refuses (title_number x) → place_after x start end given ≡ place start end given
-      place_kept (Title.Title t) n = absurd (n refl)
-      place_kept (Title.Refused r) n = refl
+      place_kept : (x : Result Span Refusal) → Refuses (title_number x) → place_after x start end given ≡ place start end given
+      place_kept (Ok t) n = absurd (n refl)
+      place_kept (Err r) n = refl
 
 -- `label_number`, `label_part` and `find_label`: on a refusal the part is empty
 pub label_call : (index header : List ℕ) (number : ℕ) →

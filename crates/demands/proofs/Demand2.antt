@@ -1,6 +1,7 @@
 -- Demand 2 for volumes, sets, header records and sequences: a check passes, and a sequence decodes, exactly when document 01's rules hold; what decoding
 -- can answer for a sequence of a volume that passes, and what it gives. Reading an index, lookups, steps, identifiers and labels are in Demand2Reads, packing
 -- and unpacking in Demand2Packets and Demand2Console. Assumes nothing.
+use Rattle.std.specs.Prelude.{Ok}
 use mathlib.Core.Path.{◌≡◌, refl, ap}
 use mathlib.Core.List.{List, [], ◌∷◌}
 use mathlib.Core.Logic.{◌⊎◌}
@@ -9,7 +10,6 @@ use lib.IntN.{pos}
 use lib.ListN.{length, get_or}
 use borrow.Author.Tests.{le-leb, leb-true}
 use Rattle.laws.specs.Writing.{written_at}
-use Rattle.answers.specs.declared.Checked.TheVariants as Check
 use Rattle.fields.specs.declared.Order.{Order}
 use Rattle.residues.specs.Tables.{ambiguity_code, protein_code}
 use Rattle.volume.specs.Index.{stated_type, sequences}
@@ -88,10 +88,10 @@ set-passes index metadata sequence = rules_zero index metadata sequence
 
 -- The record check passes exactly the records of which the rules hold.
 module _ (header : List ℕ) (start end : ℕ) where
-  pub record-passes_only : check_record header start end ≡ Check.Passed → GoodRecord header start end
+  pub record-passes_only : check_record header start end ≡ Ok tt → GoodRecord header start end
   record-passes_only = passes-good header start end
 
-  pub record-passes : GoodRecord header start end → check_record header start end ≡ Check.Passed
+  pub record-passes : GoodRecord header start end → check_record header start end ≡ Ok tt
   record-passes = good-passes header start end
 
 -- ---- one sequence

@@ -21,6 +21,7 @@ use Rattle.packets.proofs.Back.{amino_back}
 use Rattle.packets.proofs.Lengths.{run-most}
 use Rattle.packets.proofs.Bytes.{length-packets, length-bytes, packets-below, packets-bytes}
 use Rattle.packets.proofs.Packing.{run-some}
+use Rattle.runs.specs.Answers.{packed_size, unpacked_size}
 use Rattle.runs.specs.Rules.{Packs, Unpacks}
 use Rattle.runs.proofs.Answers.{MayPack, MayUnpack, pack_done, packed_may, packets_written, unpack_as, run-done, codes_written}
 use Rattle.runs.proofs.Rules.{rules_pack, run_must}
@@ -57,7 +58,7 @@ written_there place new old h =
     rw d (take_at new rest (length new) refl)
 
 pub may_of : (a : ℕ) (codes : List ℕ) (room place : ℕ) → Packs a codes room place → MayPack a codes room place
-may_of a codes room place r = packed_may a codes room place (length (run a codes)) (length codes) (rules_pack a codes room place r)
+may_of a codes room place r = packed_may a codes room place (packed_size a codes) (rules_pack a codes room place r)
 
 -- A packing call that does what packing does, into one buffer with so many packets of room; `lent` are packets as the buffer holds them.
 pub record PackLaws (call : PackCall) (lent : List ℕ → List ℕ) (buffer : List ℕ) (room : ℕ) : Type 0 where
@@ -125,9 +126,9 @@ pub pack_laws : (a : ℕ) (buffer : List ℕ) → PackLaws (pack_call a) (λ ps.
 pack_laws a buffer = record {
   packs = λ codes place m.
       let e = pack_done a codes (length buffer) place m in
-      record { succeeds = rw e; returns = rw e; leaves = packets_written a codes buffer place (length (run a codes)) (length codes) e };
+      record { succeeds = rw e; returns = rw e; leaves = packets_written a codes buffer place (packed_size a codes) e };
   there = λ codes place m.
-      rw (packets_written a codes buffer place (length (run a codes)) (length codes) (pack_done a codes (length buffer) place m))
+      rw (packets_written a codes buffer place (packed_size a codes) (pack_done a codes (length buffer) place m))
       (written_there place (run a codes) buffer m.fits);
 }
 
@@ -138,7 +139,7 @@ pub unpack_laws : (a : ℕ) → UnpackLaws a (unpack_call a) (λ ps. ps) FewPack
 unpack_laws a = record {
   unpacks = λ packets out few m.
       let e = unpack_as a packets (length out) few ∙ run-done a packets (length out) m in
-      record { succeeds = rw e; returns = rw e; leaves = codes_written a packets out (length packets) (length (unpacked packets)) e };
+      record { succeeds = rw e; returns = rw e; leaves = codes_written a packets out (unpacked_size packets) e };
   allowed = λ codes small. omega (arith, run-most a codes);
   read_back = λ packets b. refl;
 }
@@ -172,13 +173,13 @@ pub pack_bytes_laws : (a : ℕ) (buffer : List ℕ) → length buffer ≤ 184467
 pack_bytes_laws a buffer short = record {
   packs = λ codes place m.
       let e = pack_done a codes (length buffer / 4) place m in
-      record { succeeds = rw e; returns = rw e; leaves = bytes_written a codes buffer place (length (run a codes)) (length codes) e };
+      record { succeeds = rw e; returns = rw e; leaves = bytes_written a codes buffer place (packed_size a codes) e };
   there = λ codes place m.
       let R = run a codes in
       let some = run-some a codes in
       let lb = length-bytes R in
       let fits : byte_of 0 place + length (bytes_of R) ≤ length buffer = omega (arith, m.fits) in
-      rw (bytes_written a codes buffer place (length R) (length codes) (pack_done a codes (length buffer / 4) place m), ← lb)
+      rw (bytes_written a codes buffer place (packed_size a codes) (pack_done a codes (length buffer / 4) place m), ← lb)
       (written_there (byte_of 0 place) (bytes_of R) buffer fits);
 }
 
@@ -190,7 +191,7 @@ unpack_bytes_laws a = record {
   unpacks = λ bytes out few m.
       let ps = packets_of bytes in
       let e = unpack_bytes_as a bytes (length out) few.0 few.1 ∙ run-done a ps (length out) m in
-      record { succeeds = rw e; returns = rw e; leaves = codes-bytes_written a bytes out (length ps) (length (unpacked ps)) e };
+      record { succeeds = rw e; returns = rw e; leaves = codes-bytes_written a bytes out (unpacked_size ps) e };
   allowed = λ codes small.
       let lb = length-bytes (run a codes) in
       (omega (arith, run-most a codes), omega arith);

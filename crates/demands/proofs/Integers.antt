@@ -1,5 +1,6 @@
 -- What is promised of the integers of header records (request 2026-06): a number is written by one element and no other, and every number of 64 bits by
 -- one. So where records are compared by their bytes, their numbers are told apart rightly. Assumes nothing.
+use Rattle.std.specs.Prelude.{Err, Ok}
 use mathlib.Core.Path.{◌≡◌, refl, sym, ap, ap₂, ◌∙◌}
 use mathlib.Core.Bool.{true}
 use mathlib.Core.List.{List, [], ◌∷◌}
@@ -16,7 +17,6 @@ use Rattle.laws.specs.Digits.{value, all_below}
 use Rattle.laws.proofs.Digits.{below-cons}
 use Rattle.laws.proofs.Tests.{T_true}
 use Rattle.answers.specs.declared.Refusal.TheVariants.{BadHeader}
-use Rattle.elements.specs.declared.IntegerAnswer.TheVariants.{Integer, Refused}
 use Rattle.elements.specs.Parts.{bytes_of, integer_allowed, integer_part, integer_at}
 use Rattle.elements.specs.Statement.{IntegerElement}
 use Rattle.elements.specs.Written.{integer_written}
@@ -43,7 +43,7 @@ module _ {s t : List ℕ} {p m q n : ℕ} (i : IntegerElement s p m) (j : Intege
       sym (element_number_lem i) ∙ ap twos_complement w ∙ element_number_lem j
 
 -- So has what is read as the same number at two places: 02, the length, and so many bytes.
-pub read_once : (s t : List ℕ) (p q : ℕ) (z : ℤ) → all_below 256 s ≡ true → all_below 256 t ≡ true → integer_at s p ≡ Integer z → integer_at t q ≡ Integer z
+pub read_once : (s t : List ℕ) (p q : ℕ) (z : ℤ) → all_below 256 s ≡ true → all_below 256 t ≡ true → integer_at s p ≡ Ok z → integer_at t q ≡ Ok z
     → bytes_of s p (2 + get_or s (p + 1) 0) ≡ bytes_of t q (2 + get_or t (q + 1) 0)
 read_once s t p q z a b e f =
     let i = integer_found s p z e in
@@ -74,10 +74,10 @@ every-number z low high =
 -- ---- the request's cases, and that of a negative number: 02 02 00 05 and 02 02 FF 80 go, 02 02 00 80 stays 128, 02 01 00 stays 0, 02 02 FF 7F stays -129
 
 pub cases_right :
-    (integer_at (0x02 ∷ 0x02 ∷ 0x00 ∷ 0x05 ∷ []) 0 ≡ Refused BadHeader)
-    × (integer_at (0x02 ∷ 0x02 ∷ 0xFF ∷ 0x80 ∷ []) 0 ≡ Refused BadHeader)
-    × (integer_at (0x02 ∷ 0x02 ∷ 0x00 ∷ 0x80 ∷ []) 0 ≡ Integer (pos 128))
-    × (integer_at (0x02 ∷ 0x01 ∷ 0x00 ∷ []) 0 ≡ Integer (pos 0))
-    × (integer_at (0x02 ∷ 0x02 ∷ 0xFF ∷ 0x7F ∷ []) 0 ≡ Integer (negsuc 128))
+    (integer_at (0x02 ∷ 0x02 ∷ 0x00 ∷ 0x05 ∷ []) 0 ≡ Err BadHeader)
+    × (integer_at (0x02 ∷ 0x02 ∷ 0xFF ∷ 0x80 ∷ []) 0 ≡ Err BadHeader)
+    × (integer_at (0x02 ∷ 0x02 ∷ 0x00 ∷ 0x80 ∷ []) 0 ≡ Ok (pos 128))
+    × (integer_at (0x02 ∷ 0x01 ∷ 0x00 ∷ []) 0 ≡ Ok (pos 0))
+    × (integer_at (0x02 ∷ 0x02 ∷ 0xFF ∷ 0x7F ∷ []) 0 ≡ Ok (negsuc 128))
 unfolding integer_at integer_part integer_allowed value
 cases_right = (refl, refl, refl, refl, refl)

@@ -1,4 +1,5 @@
 -- Number 22 is tested first in every call: where an input range is too large the number is 22, whatever else is wrong. Assumes nothing.
+use Rattle.std.specs.Prelude.{Err}
 use mathlib.Core.Path.{◌≡◌, refl, ap}
 use mathlib.Core.Bool.{Bool, true, false, cond}
 use mathlib.Core.Logic.{inl, inr}
@@ -11,7 +12,6 @@ use borrow.Author.Tests.{lt-leb}
 use Rattle.answers.specs.Limits.{checked_by}
 use Rattle.answers.specs.Numbers.{checked_number}
 use Rattle.answers.specs.declared.Refusal.TheVariants.{TooLarge}
-use Rattle.answers.specs.declared.Checked.TheVariants as Check
 use Rattle.runs.specs.Answers.{pack_rules, pack_answer, pack_number, unpack_answer, unpack_number}
 use Rattle.byte_runs.specs.Bytes.{pack_bytes_answer, unpack_bytes_answer}
 use Rattle.volume.specs.Index.{index_answer, index_number}
@@ -147,7 +147,7 @@ lookup_large set index number h = rw (not_fit index h)
 -- ---- header records
 
 module _ (header : List ℕ) (start end : ℕ) (h : LargeBytes header) where
-  large-record : check_record header start end ≡ Check.Refused TooLarge
+  large-record : check_record header start end ≡ Err TooLarge
   unfolding check_record
   large-record = rw (not_fit header h)
 

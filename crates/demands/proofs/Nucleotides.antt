@@ -1,9 +1,11 @@
 -- What is promised of writing nucleotides (request 2026-03): demand 1, and demand 2: what is written is what the request says and nothing else, and
 -- decoding returns the codes. `gull_time_write_nucleotides` answers the same. That 22 comes first is in LargeFirst, the printed numbers in Printed.
 -- Assumes nothing.
+use Rattle.nucleotides.specs.declared.Written.{Written}
+use Rattle.std.specs.Prelude.{Err, Ok}
 use mathlib.Core.Path.{◌≡◌, refl, sym, ap, ap₂, ◌∙◌}
 use mathlib.Core.List.{List, [], ◌∷◌, ◌++◌}
-use mathlib.Core.Logic.{◌⊎◌, inl, inr}
+use mathlib.Core.Logic.{◌⊎◌}
 use Prim.Native.Nat.{ℕ, ◌+◌, ◌*◌, ◌-◌, ◌/◌, ◌%◌, ◌^◌, ◌≤◌, ◌<◌}
 use native.Mathlib.Omega.{arith}
 use lib.Count.{ones, ones_in, count_trailing_zeros}
@@ -18,18 +20,13 @@ use Rattle.laws.proofs.Places.{every_at}
 use Rattle.answers.specs.declared.Refusal.{Refusal}
 use Rattle.answers.specs.declared.Refusal.TheVariants.{BadCode}
 use Rattle.residues.specs.Tables.{ambiguity_value}
-use Rattle.sequence.specs.declared.DecodeAnswer.TheVariants as Decode
 use Rattle.sequence.specs.Corrections.{correction_of}
 use Rattle.sequence.specs.Sequence.{decode_answer, decode_output}
 use Rattle.sequence.specs.declared.Correction.{Correction}
-use Rattle.nucleotides.specs.declared.WriteAnswer.{WriteAnswer}
-use Rattle.nucleotides.specs.declared.WriteAnswer.TheVariants.{Written, Refused}
-use Rattle.nucleotides.specs.declared.BasesAnswer.{BasesAnswer}
-use Rattle.nucleotides.specs.declared.BasesAnswer.TheVariants as Bases
 use Rattle.nucleotides.specs.TwoBit.{placeholder, two_bit_byte, two_bit_size, two_bit_bytes}
 use Rattle.nucleotides.specs.Pieces.{piece, pieces, width_of, most_repeat, corrections_of}
 use Rattle.nucleotides.specs.Table.{entry_of, table_word, table_bytes}
-use Rattle.nucleotides.specs.Write.{range_size, sequence_bytes, write_rules, write_answer, write_number, write_output}
+use Rattle.nucleotides.specs.Write.{range_size, sequence_bytes, written_sizes, write_rules, write_answer, write_number, write_output}
 use Rattle.nucleotides.specs.Write.{base_count, bases_rules, bases_answer, bases_number}
 use Rattle.nucleotides.specs.Holds.{PlaceholderHolds, TwoBitHolds, PiecesHold}
 use Rattle.nucleotides.specs.Scan.{code_at}
@@ -44,39 +41,31 @@ use Rattle.nucleotides.proofs.Stretches.{pieces-plain-all, pieces_end}
 use Rattle.nucleotides.proofs.Decodes as Decodes
 use Rattle.demands.specs.Numbers.{Numbered}
 use Rattle.demands.specs.Order.{Ordered}
-use Rattle.demands.proofs.Demand1.{cause-numbered}
+use Rattle.demands.proofs.Demand1.{number_answered}
 use Rattle.demands.proofs.Order.{ordered}
 
 -- ---- demand 1
 
 -- Its number is 0 or stands in the table.
 pub write_nucleotides_call : (codes : List ℕ) (room : ℕ) → Numbered (write_number (write_answer codes room))
-write_nucleotides_call codes room = by (write_answer codes room)
-  where
-    by : (x : WriteAnswer) → Numbered (write_number x)
-    by (Written two_bit table) = inl refl
-    by (Refused r) = inr (cause-numbered r)
+write_nucleotides_call codes room = number_answered write_number (λ x. refl) (λ r. refl) (write_answer codes room)
 
 pub bases_of-code_call : (code : ℕ) → Numbered (bases_number (bases_answer code))
-bases_of-code_call code = by (bases_answer code)
-  where
-    by : (x : BasesAnswer) → Numbered (bases_number x)
-    by (Bases.Bases n) = inl refl
-    by (Bases.Refused r) = inr (cause-numbered r)
+bases_of-code_call code = number_answered bases_number (λ x. refl) (λ r. refl) (bases_answer code)
 
 -- A refusal changes nothing.
-pub write_refused_kept : (codes lent : List ℕ) (r : Refusal) → write_answer codes (length lent) ≡ Refused r → write_output codes lent ≡ lent
-write_refused_kept codes lent r e = sym (output_by codes lent (Refused r) (sym e))
+pub write_refused_kept : (codes lent : List ℕ) (r : Refusal) → write_answer codes (length lent) ≡ Err r → write_output codes lent ≡ lent
+write_refused_kept codes lent r e = sym (output_by codes lent (Err r) (sym e))
 
 -- The first broken rule decides, and the number is 0 exactly where every rule holds.
-pub write_nucleotides_order : (codes : List ℕ) (room : ℕ) → Ordered Refused write_number (write_rules codes room) (write_answer codes room)
+pub write_nucleotides_order : (codes : List ℕ) (room : ℕ) → Ordered Err write_number (write_rules codes room) (write_answer codes room)
 unfolding write_answer
 write_nucleotides_order codes room =
-    ordered Refused write_number (λ r. refl) (Written (two_bit_size (length codes)) (range_size codes)) refl (write_rules codes room) (write_answer codes room) refl
+    ordered Err write_number (λ r. refl) (Ok (written_sizes codes)) refl (write_rules codes room) (write_answer codes room) refl
 
-pub bases_of-code_order : (code : ℕ) → Ordered Bases.Refused bases_number (bases_rules code) (bases_answer code)
+pub bases_of-code_order : (code : ℕ) → Ordered Err bases_number (bases_rules code) (bases_answer code)
 unfolding bases_answer
-bases_of-code_order code = ordered Bases.Refused bases_number (λ r. refl) (Bases.Bases (base_count code)) refl (bases_rules code) (bases_answer code) refl
+bases_of-code_order code = ordered Err bases_number (λ r. refl) (Ok (base_count code)) refl (bases_rules code) (bases_answer code) refl
 
 -- ---- demand 2
 
@@ -87,20 +76,21 @@ pub record Gives (codes lent : List ℕ) (two_bit table : ℕ) (bytes range : Li
   pub first : take (two_bit + table) (write_output codes lent) ≡ bytes ++ range
   pub rest : drop (two_bit + table) (write_output codes lent) ≡ drop (two_bit + table) lent
 
-module _ (codes lent : List ℕ) (two_bit table : ℕ) (wrote : write_answer codes (length lent) ≡ Written two_bit table) where
-  passed : Passed codes (length lent) two_bit table
-  passed = written_passed codes (length lent) two_bit table wrote
+module _ (codes lent : List ℕ) (sizes : Written) (wrote : write_answer codes (length lent) ≡ Ok sizes) where
+  passed : Passed codes (length lent) sizes
+  passed = written_passed codes (length lent) sizes wrote
 
-  pub write_gives : Gives codes lent two_bit table (two_bit_bytes codes) (table_bytes (width_of (length codes)) (corrections_of codes))
+  pub write_gives : Gives codes lent sizes.two_bit sizes.table (two_bit_bytes codes) (table_bytes (width_of (length codes)) (corrections_of codes))
   write_gives = record {
     two_bit_size = length_two_bit codes ∙ sym passed.two_bit_is;
     table_size = length-table (width_of (length codes)) (corrections_of codes) ∙ sym passed.table_is;
-    first = written_bytes codes lent two_bit table wrote;
-    rest = written_rest codes lent two_bit table wrote;
+    first = written_bytes codes lent sizes wrote;
+    rest = written_rest codes lent sizes wrote;
   }
 
   -- Decoding returns the codes: wherever what was written stands as a sequence of a DNA volume, it decodes, given room, to L residues ..
-  module _ (index sequence : List ℕ) (i s : ℕ) (stands : Stands index sequence i s two_bit table (take (two_bit + table) (write_output codes lent))) where
+  module _ (index sequence : List ℕ) (i s : ℕ) (stands : Stands index sequence i s sizes.two_bit sizes.table
+      (take (sizes.two_bit + sizes.table) (write_output codes lent))) where
     there : Stands index sequence i s (two_bit_size (length codes)) (range_size codes) (sequence_bytes codes)
     there = record {
       index_size = stands.index_size;
@@ -114,10 +104,10 @@ module _ (codes lent : List ℕ) (two_bit table : ℕ) (wrote : write_answer cod
       inside = (let a = stands.inside in let b = passed.two_bit_is in let c = passed.table_is in omega arith);
       there = ap (λ (n : ℕ). take n (drop s sequence)) (ap₂ ◌+◌ (sym passed.two_bit_is) (sym passed.table_is))
           ∙ stands.there
-          ∙ written_bytes codes lent two_bit table wrote;
+          ∙ written_bytes codes lent sizes wrote;
     }
 
-    pub written_decodes : (room : ℕ) → length codes ≤ room → decode_answer index sequence i room ≡ Decode.Decoded (length codes)
+    pub written_decodes : (room : ℕ) → length codes ≤ room → decode_answer index sequence i room ≡ Ok (length codes)
     written_decodes = Decodes.decode_answers index sequence i s codes there
 
     -- .. that are the codes.
@@ -188,12 +178,12 @@ seventeen_n = refl
 -- ---- the bases of a code
 
 -- Below 16 it is how many of the bits of the four bases are set in the ambiguity value: 1 for A, C, G and T, 0 for '-'.
-pub bases-counted : (code : ℕ) → code < 16 → bases_answer code ≡ Bases.Bases (sum_to (λ b. ambiguity_value code / 2 ^ b % 2) 4)
+pub bases-counted : (code : ℕ) → code < 16 → bases_answer code ≡ Ok (sum_to (λ b. ambiguity_value code / 2 ^ b % 2) 4)
 unfolding bases_answer base_count ones ones_in
 bases-counted code h =
     rw (lt-ltb code 16 h)
-    (ap Bases.Bases (eqb-true _ _ (every_at (λ k. eqb (base_count k) (sum_to (λ b. ambiguity_value k / 2 ^ b % 2) 4)) 16 code h refl)))
+    (ap Ok (eqb-true _ _ (every_at (λ k. eqb (base_count k) (sum_to (λ b. ambiguity_value k / 2 ^ b % 2) 4)) 16 code h refl)))
 
-pub bases-refused : (code : ℕ) → 16 ≤ code → bases_answer code ≡ Bases.Refused BadCode
+pub bases-refused : (code : ℕ) → 16 ≤ code → bases_answer code ≡ Err BadCode
 unfolding bases_answer
 bases-refused code h = rw (le-ltb code 16 h)

@@ -1,5 +1,6 @@
 -- What is promised of a page (request 2026-02): demand 1, its rule of an untouched output item by item; demand 2; and what can stop a page of a volume
 -- that passes. `gull_time_fetch_page` answers the same. That 22 comes first is in LargeFirst. Assumes nothing.
+use Rattle.std.specs.Prelude.{Err, Ok, Result}
 use mathlib.Core.Path.{◌≡◌, refl, sym, ap, subst, ◌∙◌}
 use mathlib.Core.List.{List, [], ◌∷◌}
 use mathlib.Core.Logic.{◌⊎◌, inl, inr}
@@ -16,20 +17,17 @@ use Rattle.answers.specs.Limits.{checked_by}
 use Rattle.answers.specs.Numbers.{number_of}
 use Rattle.answers.specs.declared.Refusal.{Refusal}
 use Rattle.answers.specs.declared.Refusal.TheVariants.{NoRoom, TooLarge}
-use Rattle.answers.specs.declared.Checked.TheVariants as Check
-use Rattle.answers.proofs.Numbers.{number-not-zero}
+use Rattle.answers.proofs.Checks.{err-not_ok, err_cause}
 use Rattle.volume.specs.Index.{sequences}
 use Rattle.volume.specs.Volume.{volume_answer, volume_number}
 use Rattle.volume.specs.Holds.{VolumeHolds}
 use Rattle.volume.proofs.Exact as Volume
-use Rattle.sequence.specs.declared.DecodeAnswer.TheVariants as Decode
 use Rattle.sequence.specs.Checked.{OnlyResidues}
 use Rattle.sequence.specs.Sequence.{decode_answer, decode_number}
 use Rattle.sequence.proofs.Checked.{decode_only_residues}
 use Rattle.sequence.proofs.Exact.{zero_passed}
-use Rattle.pages.specs.declared.PageAnswer.{PageAnswer}
-use Rattle.pages.specs.declared.PageAnswer.TheVariants.{Fetched, Stopped}
-use Rattle.pages.specs.Page.{Progress, item_answer, step, page_rules, page_answer, page_output, page_ends, page_number}
+use Rattle.pages.specs.Page.{Progress, item_answer, step, stopped_at, page_rules, page_answer, page_output, page_ends, page_number}
+use Rattle.pages.specs.declared.Stop.{Stop}
 use Rattle.pages.specs.Holds.{item_length, filled_by, PageHolds, large, short, whole, refused}
 use Rattle.pages.proofs.Steps as Steps
 use Rattle.pages.proofs.Exact as Exact
@@ -47,31 +45,31 @@ use Rattle.demands.proofs.LargeFirst.{always}
 pub fetch_page_call : (index sequence numbers output ends : List ℕ) → Numbered (page_number (page_answer index sequence numbers output ends))
 fetch_page_call index sequence numbers output ends = by (page_answer index sequence numbers output ends)
   where
-    by : (x : PageAnswer) → Numbered (page_number x)
-    by (Fetched n) = inl refl
-    by (Stopped r n) = inr (cause-numbered r)
+    by : (x : Result ℕ Stop) → Numbered (page_number x)
+    by (Ok n) = inl refl
+    by (Err stop) = inr (cause-numbered stop.refusal)
 
 -- The rule of an untouched output holds item by item: an item that is refused changes nothing.
-pub page_item_kept : (index sequence : List ℕ) (number : ℕ) (p : Progress) (r : Refusal) → item_answer index sequence number p ≡ Decode.Refused r
+pub page_item_kept : (index sequence : List ℕ) (number : ℕ) (p : Progress) (r : Refusal) → item_answer index sequence number p ≡ Err r
     → step index sequence number p ≡ p
 page_item_kept index sequence number p r e = Steps.item_kept index sequence number p r e
 
 module _ (index sequence numbers output ends : List ℕ) where
   -- what the page answers and leaves
-  abbrev Gives : PageAnswer → List ℕ → List ℕ → Type 0
+  abbrev Gives : Result ℕ Stop → List ℕ → List ℕ → Type 0
   Gives answer o e =
       (answer ≡ page_answer index sequence numbers output ends)
       × (o ≡ page_output index sequence numbers output ends)
       × (e ≡ page_ends index sequence numbers output ends)
 
   -- 22, and 13 for the list of ends, come before any work: nothing is done, and nothing is changed.
-  pub page_large_kept : SomeLarge (index ∷ sequence ∷ []) → Gives (Stopped TooLarge 0) output ends
-  page_large_kept (inl h) = Exact.holds_page index sequence numbers output ends (Stopped TooLarge 0) output ends (large (inl h) refl refl refl)
-  page_large_kept (inr (inl h)) = Exact.holds_page index sequence numbers output ends (Stopped TooLarge 0) output ends (large (inr h) refl refl refl)
+  pub page_large_kept : SomeLarge (index ∷ sequence ∷ []) → Gives (stopped_at TooLarge 0) output ends
+  page_large_kept (inl h) = Exact.holds_page index sequence numbers output ends (stopped_at TooLarge 0) output ends (large (inl h) refl refl refl)
+  page_large_kept (inr (inl h)) = Exact.holds_page index sequence numbers output ends (stopped_at TooLarge 0) output ends (large (inr h) refl refl refl)
   page_large_kept (inr (inr h)) = absurd h
 
-  pub page_short_kept : length index ≤ 2147483647 → length sequence ≤ 2147483647 → length ends < length numbers → Gives (Stopped NoRoom 0) output ends
-  page_short_kept i s h = Exact.holds_page index sequence numbers output ends (Stopped NoRoom 0) output ends (short i s h refl refl refl)
+  pub page_short_kept : length index ≤ 2147483647 → length sequence ≤ 2147483647 → length ends < length numbers → Gives (stopped_at NoRoom 0) output ends
+  page_short_kept i s h = Exact.holds_page index sequence numbers output ends (stopped_at NoRoom 0) output ends (short i s h refl refl refl)
 
   -- ---- demand 2
 
@@ -81,15 +79,15 @@ module _ (index sequence numbers output ends : List ℕ) where
   page_gives = Exact.page_holds index sequence numbers output ends
 
   -- .. and nothing else meets it.
-  pub page_gives_only : (answer : PageAnswer) (o e : List ℕ) → PageHolds index sequence numbers output ends answer o e → Gives answer o e
+  pub page_gives_only : (answer : Result ℕ Stop) (o e : List ℕ) → PageHolds index sequence numbers output ends answer o e → Gives answer o e
   page_gives_only = Exact.holds_page index sequence numbers output ends
 
 -- An empty list succeeds over any two files that are not too large, and changes nothing.
 pub page_of-none : (index sequence output ends : List ℕ) → length index ≤ 2147483647 → length sequence ≤ 2147483647
-    → Gives index sequence [] output ends (Fetched 0) output ends
+    → Gives index sequence [] output ends (Ok 0) output ends
 unfolding filled_by
 page_of-none index sequence output ends i s =
-    page_gives_only index sequence [] output ends (Fetched 0) output ends
+    page_gives_only index sequence [] output ends (Ok 0) output ends
     (whole i s (omega arith) refl (record {
       fetched = λ k h. absurd (not-suc-le-zero h);
       residues = λ k h. absurd (not-suc-le-zero h);
@@ -106,23 +104,22 @@ module _ (index sequence numbers output ends : List ℕ) where
 
   -- the rules of an item hold where it is fetched
   item-holds : (n : ℕ) → ((k : ℕ) → k < n
-      → decode_answer index sequence (get_or numbers k 0) (length output - filled_by index sequence numbers k) ≡ Decode.Decoded
+      → decode_answer index sequence (get_or numbers k 0) (length output - filled_by index sequence numbers k) ≡ Ok
       (item_length index sequence numbers k))
       → (k : ℕ) → k < n → AllHold (item_rules k)
   item-holds n f k h = (zero_passed index sequence (get_or numbers k 0) (length output - filled_by index sequence numbers k) (ap decode_number (f k h))).0
 
   item-refuses : (k : ℕ) (r : Refusal)
-      → decode_answer index sequence (get_or numbers k 0) (length output - filled_by index sequence numbers k) ≡ Decode.Refused r
-      → checked_by (item_rules k) ≡ Check.Refused r
+      → decode_answer index sequence (get_or numbers k 0) (length output - filled_by index sequence numbers k) ≡ Err r
+      → checked_by (item_rules k) ≡ Err r
   unfolding decode_answer
   item-refuses k r e =
-      refused_any Decode.Refused (Decode.Decoded (item_length index sequence numbers k)) (item_rules k) r (λ s q. cc)
-      (λ q. number-not-zero r (sym (ap decode_number q))) e Check.Refused Check.Passed
+      refused_any Err (Ok (item_length index sequence numbers k)) (item_rules k) r (err_cause r) (λ q. err-not_ok r _ (sym q)) e Err (Ok tt)
 
   before_work : length index ≤ 2147483647 → length sequence ≤ 2147483647 → length numbers ≤ length ends → AllHold (page_rules index sequence numbers ends)
   before_work i s h = (le-leb _ _ i, (le-leb _ _ s, (le-leb _ _ h, tt)))
 
-  number_by : (answer : PageAnswer) (o e : List ℕ) → PageHolds index sequence numbers output ends answer o e
+  number_by : (answer : Result ℕ Stop) (o e : List ℕ) → PageHolds index sequence numbers output ends answer o e
       → page_number answer ≡ verdict number_of 0 (whole_page_rules index sequence numbers output ends)
   number_by answer o e (large (inl h) a b c) = rw (a, lt-leb (length index) 2147483647 h)
   number_by answer o e (large (inr h) a b c) = rw (a, lt-leb (length sequence) 2147483647 h) (sym (always (number_of TooLarge) (leb (length index) 2147483647)))
@@ -136,7 +133,7 @@ module _ (index sequence numbers output ends : List ℕ) where
   number_by answer o e (refused i s h n b r g a d) =
       ap page_number a
       ∙ sym (hold_then number_of 0 (page_rules index sequence numbers ends) (rules_to item_rules (length numbers)) (before_work i s h)
-      ∙ rules_refused item_rules (length numbers) n (Check.Refused r) r b (rules_all item_rules n (item-holds n d.fetched)) (sym (item-refuses n r g)) refl
+      ∙ rules_refused item_rules (length numbers) n (Err r) r b (rules_all item_rules n (item-holds n d.fetched)) (sym (item-refuses n r g)) refl
       number_of 0)
 
   -- `fetch_page`: the first broken rule of the whole list decides, and the number is 0 exactly where every rule holds
@@ -153,7 +150,7 @@ module _ (index sequence numbers output ends : List ℕ) where
 module _ (index sequence header : List ℕ) (passes : volume_number (volume_answer index sequence header) ≡ 0) (numbers output ends : List ℕ)
     (given : (k : ℕ) → k < length numbers → get_or numbers k 0 < sequences index) (places : length numbers ≤ length ends)
     (room : filled_by index sequence numbers (length numbers) ≤ length output) where
-  abbrev OnlyBad : PageAnswer → Type 0
+  abbrev OnlyBad : Result ℕ Stop → Type 0
   OnlyBad answer = (page_number answer ≡ 0) ⊎ ((page_number answer ≡ 11) ⊎ (page_number answer ≡ 12))
 
   -- a volume that passes is not too large
@@ -161,9 +158,9 @@ module _ (index sequence header : List ℕ) (passes : volume_number (volume_answ
   sizes = (Volume.zero_rules index sequence header passes).0
 
   by_item : (n : ℕ) → n < length numbers → (r : Refusal)
-      → decode_answer index sequence (get_or numbers n 0) (length output - filled_by index sequence numbers n) ≡ Decode.Refused r
-      → OnlyResidues index sequence (get_or numbers n 0) (length output - filled_by index sequence numbers n) → OnlyBad (Stopped r n)
-  by_item n h r g (inl e) = absurd (number-not-zero r (sym (ap decode_number g) ∙ ap decode_number e))
+      → decode_answer index sequence (get_or numbers n 0) (length output - filled_by index sequence numbers n) ≡ Err r
+      → OnlyResidues index sequence (get_or numbers n 0) (length output - filled_by index sequence numbers n) → OnlyBad (stopped_at r n)
+  by_item n h r g (inl e) = absurd (err-not_ok r _ (sym g ∙ e))
   by_item n h r g (inr (inl e)) = inr (inl (ap decode_number (sym g ∙ e)))
   by_item n h r g (inr (inr (inl e))) = inr (inr (ap decode_number (sym g ∙ e)))
   by_item n h r g (inr (inr (inr e))) =
@@ -172,7 +169,7 @@ module _ (index sequence header : List ℕ) (passes : volume_number (volume_answ
       let few = e.1 in
       absurd (omega arith)
 
-  only_bad : (answer : PageAnswer) (o e : List ℕ) → PageHolds index sequence numbers output ends answer o e → OnlyBad answer
+  only_bad : (answer : Result ℕ Stop) (o e : List ℕ) → PageHolds index sequence numbers output ends answer o e → OnlyBad answer
   only_bad answer o e (large (inl h) a b c) = let s = sizes.index_size in absurd (omega arith)
   only_bad answer o e (large (inr h) a b c) = let s = sizes.sequence_size in absurd (omega arith)
   only_bad answer o e (short i s h a b c) = absurd (omega arith)

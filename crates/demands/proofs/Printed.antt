@@ -1,8 +1,9 @@
 -- Demand 1, the order: the numbers of each call's rules are those that document 01 prints, in that order. A number that stands twice in a row is
 -- asked of two things. Which rule decides is in Order.antt. Assumes nothing.
-use mathlib.Core.Path.{◌≡◌, refl, sym, ap, ◌∙◌}
+use Rattle.std.specs.Prelude.{Err, Ok, Result}
+use mathlib.Core.Path.{◌≡◌, refl, ap, ◌∙◌}
 use mathlib.Core.Bool.{true, false}
-use mathlib.Core.List.{List, [], ◌∷◌, ◌++◌, append_assoc}
+use mathlib.Core.List.{List, [], ◌∷◌, ◌++◌}
 use mathlib.Core.Logic.{◌⊎◌, inl, inr}
 use Prim.Native.Nat.{ℕ, zero, suc}
 use native.Mathlib.Numerals.{add-one}
@@ -28,8 +29,6 @@ use Rattle.dsqdata.specs.Check.{body_rules, layout_rules, ends_rules, rules_of_r
 use Rattle.dsqdata.specs.Check.{record_rules, stated_rules, total_rules, behind_runs, rest_rules, content_rules, set_rules}
 use Rattle.dsqdata.specs.Lookup.{part_rules, lookup_rules}
 use Rattle.dsqdata.specs.declared.SetRecord.{SetRecord}
-use Rattle.elements.specs.declared.ElementAnswer.{ElementAnswer}
-use Rattle.elements.specs.declared.ElementAnswer.TheVariants as Element
 use Rattle.elements.proofs.Refusals.{read_refusals}
 use Rattle.headers.specs.Record as Header
 use Rattle.headers.specs.Record.{refusal_in, nesting_at, element_rules}
@@ -168,9 +167,9 @@ lookup_numbers set index number = refl
 
 -- the nesting is 20 or 21, bytes behind the element and the shape are 20
 module _ (s : List ℕ) (start : ℕ) where
-  nesting_number : (x : ElementAnswer) → nesting_at s start ≡ x → (number_of (refusal_in x) ≡ 20) ⊎ (number_of (refusal_in x) ≡ 21)
-  nesting_number (Element.End n) e = inl refl
-  nesting_number (Element.Refused r) e = which (read_refusals 16 _ s start r e)
+  nesting_number : (x : Result ℕ Refusal) → nesting_at s start ≡ x → (number_of (refusal_in x) ≡ 20) ⊎ (number_of (refusal_in x) ≡ 21)
+  nesting_number (Ok n) e = inl refl
+  nesting_number (Err r) e = which (read_refusals 16 _ s start r e)
     where
       which : (r ≡ BadHeader) ⊎ (r ≡ TooDeep) → (number_of r ≡ 20) ⊎ (number_of r ≡ 21)
       which (inl q) = inl (ap number_of q)

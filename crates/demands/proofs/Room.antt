@@ -1,5 +1,6 @@
 -- How much room packing takes (request 2026-08): the packing rule gives a shortest run, its length by the number of residues, and that a buffer of
 -- so many packets is enough and one of fewer is not. Assumes nothing.
+use Rattle.std.specs.Prelude.{Ok}
 use mathlib.Core.Path.{◌≡◌, refl, sym, ap, ◌∙◌}
 use mathlib.Core.Bool.{true, false}
 use mathlib.Core.List.{List, [], ◌∷◌, ◌++◌, append_assoc}
@@ -24,9 +25,9 @@ use Rattle.packets.proofs.Packing.{run-some}
 use Rattle.packets.proofs.Rules.{formed_rules, rules_formed}
 use Rattle.packets.proofs.Lengths.{run-most, run_amino, run-above, run-plain}
 use Rattle.packets.proofs.Shortest.{none_shorter_lem}
-use Rattle.runs.specs.Answers.{pack_rules, pack_answer, pack_number, pack_values}
+use Rattle.runs.specs.declared.RunSize.{RunSize}
+use Rattle.runs.specs.Answers.{pack_rules, packed_size, pack_answer, pack_number, pack_values}
 use Rattle.runs.specs.Rules.{Packable}
-use Rattle.runs.specs.declared.PackAnswer.TheVariants as Pack
 use Rattle.runs.proofs.Answers.{may_pack, pack_done}
 use Rattle.runs.proofs.Rules.{rules_pack, rules_full, fits-not_full}
 use Rattle.console.specs.Results.{result_bytes}
@@ -99,7 +100,8 @@ module _ (call : PackCall) (codes buffer : List ℕ) (room place : ℕ) where
   a = call.alphabet
 
   decides : call.number codes buffer place ≡ pack_number (pack_answer a codes room place)
-      → ((n l : ℕ) → pack_answer a codes room place ≡ Pack.Packed n l → call.returned codes buffer place ≡ call.as_returned (n ∷ l ∷ []))
+      → ((size : RunSize) → pack_answer a codes room place ≡ Ok size
+      → call.returned codes buffer place ≡ call.as_returned (size.packets ∷ size.residues ∷ []))
       → RoomDecides call codes buffer room place
   decides same told = record {
     enough = λ h e. fits-not_full a codes room place h (sym same ∙ e);
@@ -107,7 +109,7 @@ module _ (call : PackCall) (codes buffer : List ℕ) (room place : ℕ) where
     too_few = λ ok h. same ∙ rw (rules_full a codes room place ok h);
     reports = λ e.
         let may = may_pack a codes room place ((pack_order a codes room place).passes.0 (sym same ∙ e)) in
-        told (length (run a codes)) (length codes) (pack_done a codes room place may);
+        told (packed_size a codes) (pack_done a codes room place may);
   }
 
 -- The larger of 1 and L/6 rounded up is enough for any codes.
@@ -117,10 +119,10 @@ sixes-enough call codes buffer room place d h = d.enough (omega (arith, run-most
 
 -- `pack` into packets, `pack_bytes` into bytes, of which four are a packet
 pub pack_room_decides : (alphabet : ℕ) (codes packets : List ℕ) (place : ℕ) → RoomDecides (pack_call alphabet) codes packets (length packets) place
-pack_room_decides alphabet codes packets place = decides (pack_call alphabet) codes packets (length packets) place refl (λ n l e. rw e)
+pack_room_decides alphabet codes packets place = decides (pack_call alphabet) codes packets (length packets) place refl (λ size e. rw e)
 
 pub bytes-room_decides : (alphabet : ℕ) (codes bytes : List ℕ) (place : ℕ) → RoomDecides (pack_bytes_call alphabet) codes bytes (length bytes / 4) place
-bytes-room_decides alphabet codes bytes place = decides (pack_bytes_call alphabet) codes bytes (length bytes / 4) place refl (λ n l e. rw e)
+bytes-room_decides alphabet codes bytes place = decides (pack_bytes_call alphabet) codes bytes (length bytes / 4) place refl (λ size e. rw e)
 
 -- `gull_pack`, with a results range of at least 16 bytes; a shorter one is 13 by itself
 pub gull_room_decides : (alphabet : ℕ) (codes buffer : List ℕ) (place : ℕ) (results : List ℕ) → 16 ≤ length results
@@ -128,7 +130,7 @@ pub gull_room_decides : (alphabet : ℕ) (codes buffer : List ℕ) (place : ℕ)
 gull_room_decides alphabet codes buffer place results enough =
     let same = pack_room alphabet codes buffer place (length results) (two_fit results enough) in
     decides (gull_pack_call alphabet results) codes buffer (length buffer / 4) place (ap pack_number same)
-    (λ n l e. rw same (two_told results enough _ n l (rw e)))
+    (λ size e. rw same (two_told results enough _ size.packets size.residues (rw e)))
 
 -- the first of two results, read back
 first_read : (n l : ℕ) (results : List ℕ) → 16 ≤ length results → n < 2 ^ 64

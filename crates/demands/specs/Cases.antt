@@ -1,14 +1,12 @@
 -- The marked cases of document 01's table: one list, one statement of what is right.
 -- Assumes nothing.
-use Rattle.std.specs.Prelude.{◌≡◌, List, [], ◌∷◌, ℕ, ℤ, pos, negsuc, length, replicate}
+use Rattle.std.specs.Prelude.{◌≡◌, List, [], ◌∷◌, ℕ, ℤ, pos, negsuc, length, replicate, Ok}
 use Rattle.answers.specs.Limits.{checked_by}
-use Rattle.answers.specs.declared.Checked.TheVariants.{Passed}
 use Rattle.packets.specs.Packing.{run}
 use Rattle.volume.specs.Tables.{two_bit_length}
 use Rattle.sequence.specs.Bases.{two_bit_residues}
 use Rattle.sequence.specs.Corrections.{range_rules, range_corrections, corrected}
 use Rattle.elements.specs.Parts.{integer_at}
-use Rattle.elements.specs.declared.IntegerAnswer.TheVariants.{Integer}
 
 -- A case: some codes packed in an alphabet give these packets; two-bit bytes are these residues; an ambiguity range over some residues gives
 -- these; an integer element of a header record is this number.
@@ -23,9 +21,9 @@ abbrev pub Right : Case → Type 0
 Right (packs alphabet codes packets) = run alphabet codes ≡ packets
 Right (reads bytes residues) = two_bit_residues bytes 0 (two_bit_length bytes 0 (length bytes)) ≡ residues
 Right (corrects range residues result) =
-    (checked_by (range_rules range 0 (length range) (length residues)) ≡ Passed)
+    (checked_by (range_rules range 0 (length range) (length residues)) ≡ Ok tt)
     × (corrected (range_corrections range 0 (length range)) residues ≡ result)
-Right (counts element number) = integer_at element 0 ≡ Integer number
+Right (counts element number) = integer_at element 0 ≡ Ok number
 
 -- Every case of a list is right.
 abbrev pub AllRight : List Case → Type 0

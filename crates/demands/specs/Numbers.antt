@@ -1,10 +1,8 @@
 -- What demand 1 says of a call: its number, what it returns beside it, and what a refusal leaves of a lent range.
 -- Assumes nothing.
-use Rattle.std.specs.Prelude.{◌≡◌, ◌⊎◌, List, [], ◌∷◌, ℕ, ◌<◌, length, get_or}
+use Rattle.std.specs.Prelude.{◌≡◌, ◌⊎◌, List, [], ◌∷◌, ℕ, ◌<◌, length, get_or, None, Option, Some}
 use Rattle.answers.specs.Numbers.{number_of}
 use Rattle.answers.specs.declared.Refusal.TheVariants.{BadRun}
-use Rattle.packets.specs.declared.RunLength.{RunLength}
-use Rattle.packets.specs.declared.RunLength.TheVariants.{Residues, NoRun}
 
 -- Document 01's table of answer numbers, row by row. It has no 16.
 abbrev pub table_numbers : List ℕ
@@ -71,13 +69,13 @@ pub record Answered {A : Type 0} (number : ℕ) (values : List A) : Type 0 where
   pub alone : Refuses number → values ≡ []
 
 -- Document 01's number of what reading a run finds, and its value: L, the number of residues.
-abbrev pub run_number : RunLength → ℕ
-run_number (Residues l) = 0
-run_number NoRun = number_of BadRun
+abbrev pub run_number : Option ℕ → ℕ
+run_number (Some l) = 0
+run_number None = number_of BadRun
 
-abbrev pub run_values : RunLength → List ℕ
-run_values (Residues l) = l ∷ []
-run_values NoRun = []
+abbrev pub run_values : Option ℕ → List ℕ
+run_values (Some l) = l ∷ []
+run_values None = []
 
 -- A refusal writes nowhere: a lent range is as it was.
 abbrev pub Kept : ℕ → List ℕ → List ℕ → Type 0

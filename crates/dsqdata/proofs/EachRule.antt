@@ -2,15 +2,14 @@
 use mathlib.Core.Path.{◌≡◌, refl, sym, ap, ◌∙◌}
 use mathlib.Core.Logic.{⊎_elim}
 use mathlib.Core.List.{List, [], ◌++◌, append_assoc, append-nil}
-use Prim.Native.Nat.{ℕ, zero, suc, ◌+◌, ◌≤◌, ◌<◌}
+use Prim.Native.Nat.{ℕ, zero, suc, ◌+◌, ◌<◌}
 use native.Mathlib.Omega.{arith}
 use native.Mathlib.Numerals.{add-one}
-use native.Mathlib.Nat.{eq-or-lt_of_le, le_of_suc-le-suc, not-suc-le-zero, le_antisymm}
+use native.Mathlib.Nat.{eq-or-lt_of_le, le_of_suc-le-suc, not-suc-le-zero}
 use Rattle.laws.specs.Rules.{Rule, verdict, AllHold}
 use Rattle.laws.proofs.Rules.{verdict-passes, verdict-append, hold-append, hold-first, hold-second}
 use Rattle.answers.specs.declared.Refusal.{Refusal}
-use Rattle.answers.specs.declared.Checked.{Checked}
-use Rattle.answers.specs.declared.Checked.TheVariants.{Refused}
+use Rattle.std.specs.Prelude.{Result, Err}
 use Rattle.answers.specs.Limits.{checked_by}
 use Rattle.answers.proofs.Checks.{refused-first}
 use Rattle.dsqdata.specs.Check.{rules_to}
@@ -19,10 +18,6 @@ module _ (f : ℕ → List (Rule Refusal)) where
   -- one number more
   pub rules_more : (k : ℕ) → AllHold (rules_to f k) → AllHold (f k) → AllHold (rules_to f (k + 1))
   rules_more k h g = rw add-one (hold-append (rules_to f k) (f k) h g)
-
-  -- a loop that has come to its end
-  pub rules_done : (k n : ℕ) → k ≤ n → n ≤ k → AllHold (rules_to f k) → AllHold (rules_to f n)
-  rules_done k n a b h = rw (← le_antisymm a b) h
 
   -- the rules from a number on
   rules_from : (n k : ℕ) → k < n → (rest : List (Rule Refusal)) × (rules_to f n ≡ rules_to f k ++ (f k ++ rest))
@@ -33,7 +28,7 @@ module _ (f : ℕ → List (Rule Refusal)) where
       (eq-or-lt_of_le (le_of_suc-le-suc l))
 
   -- the first number whose rules refuse decides
-  pub rules_refused : (n k : ℕ) (c : Checked) (r : Refusal) → k < n → AllHold (rules_to f k) → c ≡ checked_by (f k) → c ≡ Refused r
+  pub rules_refused : (n k : ℕ) (c : Result Unit Refusal) (r : Refusal) → k < n → AllHold (rules_to f k) → c ≡ checked_by (f k) → c ≡ Err r
       → {B : Type 0} (told : Refusal → B) (fine : B) → verdict told fine (rules_to f n) ≡ told r
   rules_refused n k c r l h e g told fine =
       let p = rules_from n k l in

@@ -15,7 +15,7 @@ use Rattle.fields.proofs.Turned.{unsigned_same}
 use Rattle.fields.specs.declared.Order.{Order}
 use Rattle.packets.specs.Bytes.{packets_by, packets_of, bytes_of}
 use Rattle.packets.specs.Reading.{run_length}
-use Rattle.packets.specs.declared.RunLength.{RunLength}
+use Rattle.std.specs.Prelude.{Option}
 use Rattle.packets.specs.Positions.{byte_of}
 use Rattle.packets.proofs.Bytes.{length-packets, packets_at, packets_part, packets-bytes}
 use Rattle.byte_runs.specs.Bytes.{run_in}
@@ -55,7 +55,7 @@ module _ (order : Order) where
         ap (packets_by order) (slice_part start end s (omega arith) (omega arith))
         ∙ rw (e, f, body-packets s fits) (packets_part order 8 s from to (omega arith) (omega arith))
 
-    pub run_found : (x : RunLength) → x ≡ run_in order a (take (end - start) (drop start s)) → x ≡ run_length a (slice from to (body_of order s))
+    pub run_found : (x : Option ℕ) → x ≡ run_in order a (take (end - start) (drop start s)) → x ≡ run_length a (slice from to (body_of order s))
     run_found x e =
         let n : length (take (end - start) (drop start s)) ≤ 2147483647 =
         omega (arith, length-take (end - start) (drop start s), length-drop start s) in

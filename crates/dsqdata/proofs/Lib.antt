@@ -1,5 +1,4 @@
 pub mod Chain
-pub mod Fields
 pub mod EachRule
 pub mod Named
 pub mod Orders
@@ -8,13 +7,10 @@ pub mod Bodies
 pub mod FileBodies
 pub mod Rising
 pub mod Texts
-pub mod Longest
 pub mod Parts
-pub mod Wholes
-pub mod Parted
+pub mod Runs
 pub mod SetRules
 pub mod Demand
 pub mod LookupRules
-pub mod Totals
 pub mod ReadAlike
 pub mod Turned

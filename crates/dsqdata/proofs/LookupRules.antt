@@ -2,7 +2,7 @@
 use mathlib.Core.Path.{◌≡◌, refl, sym, ap}
 use mathlib.Core.Bool.{true}
 use mathlib.Core.List.{List}
-use Prim.Native.Nat.{ℕ, suc, ◌+◌, ◌-◌, ◌≤◌, ◌<◌}
+use Prim.Native.Nat.{ℕ, suc, ◌+◌, ◌≤◌, ◌<◌}
 use native.Mathlib.Omega.{arith}
 use native.Mathlib.Nat.{le_antisymm, le_of_eq}
 use lib.IntN.{ℤ, pos, negsuc}
@@ -13,13 +13,12 @@ use Rattle.laws.proofs.Rules.{verdict-passes}
 use Rattle.laws.proofs.Tests.{true_T, T_true}
 use Rattle.laws.proofs.Passing.{passes_with}
 use Rattle.fields.specs.declared.Order.{Order}
-use Rattle.packets.specs.declared.BytePos.{BytePos}
-use Rattle.packets.specs.declared.PacketPos.{PacketPos}
+use Rattle.std.specs.Prelude.{Ok, Err}
+use Rattle.answers.proofs.Checks.{err-not_ok}
 use Rattle.packets.specs.Ends.{after}
 use Rattle.packets.proofs.Ends.{above}
 use Rattle.dsqdata.specs.declared.SetRecord.{SetRecord}
-use Rattle.dsqdata.specs.declared.SetAnswer.TheVariants as A
-use Rattle.dsqdata.specs.declared.LookupAnswer.TheVariants.{Found, Refused}
+use Rattle.dsqdata.specs.declared.Located.{Located}
 use Rattle.dsqdata.specs.Header.{count_of, bytes_after_header, packets_in, body_of}
 use Rattle.dsqdata.specs.Ends.{metadata_table, packet_table, end_before, run_at, metadata_start}
 use Rattle.dsqdata.specs.Check.{set_check}
@@ -43,10 +42,10 @@ module _ (order : Order) (i : List ℕ) (t k : ℕ) where
 
 module _ (set : SetRecord) (i : List ℕ) (k : ℕ) where
   -- What is found is the place, and the rules hold ..
-  pub found_rules : (a : BytePos) (b : ℕ) (p : PacketPos) (c : ℕ) → lookup_of set i k ≡ Found a b p c → LookupRules set i k × (found_at set.order i k ≡ Found a b p c)
+  pub found_rules : (x : Located) → lookup_of set i k ≡ Ok x → LookupRules set i k × (found_at set.order i k ≡ x)
   unfolding lookup_of
-  found_rules a b p c h =
-      let v = passes_with Refused (found_at set.order i k) (Found a b p c) (λ r e. let z : ◌≡◌ {A = ℕ} 0 1 = cc in omega arith) (lookup_rules set i k) h in
+  found_rules x h =
+      let v = passes_with Err (Ok (found_at set.order i k)) (Ok x) (λ r. err-not_ok r x) (lookup_rules set i k) h in
       let t = lookup_tests set i k v.0 in (
         record {
           fits = leb-true _ _ t.fits;
@@ -56,15 +55,15 @@ module _ (set : SetRecord) (i : List ℕ) (k : ℕ) where
           metadata_part = part_rule set.order i metadata_table k t.metadata_part;
           run_part = part_rule set.order i packet_table k t.run_part;
         },
-        v.1,
+        (let e = v.1 in cc),
       )
 
   -- .. and where the rules hold the place is found.
-  pub rules_found : LookupRules set i k → lookup_of set i k ≡ found_at set.order i k
+  pub rules_found : LookupRules set i k → lookup_of set i k ≡ Ok (found_at set.order i k)
   unfolding lookup_of
   rules_found r =
       let w = r.index_whole in
-      verdict-passes Refused (found_at set.order i k) (lookup_rules set i k)
+      verdict-passes Err (Ok (found_at set.order i k)) (lookup_rules set i k)
       (lookup_tests_back set i k
       (record {
         fits = le-leb _ _ r.fits;
@@ -89,9 +88,9 @@ ends_part order i t n size k r h l =
       high = le_z_yes (true_T _ (top (end_before order i t (suc k)) (omega arith)));
     }
 
-module _ (i m s : List ℕ) (x : SetRecord) (h : set_check i m s ≡ A.Passed x) (k : ℕ) (l : k < count_of x.order i) where
+module _ (i m s : List ℕ) (x : SetRecord) (h : set_check i m s ≡ Ok x) (k : ℕ) (l : k < count_of x.order i) where
   -- In a set that passed, the lookup by its record finds every number ..
-  pub passed_found : lookup_of x i k ≡ found_at x.order i k
+  pub passed_found : lookup_of x i k ≡ Ok (found_at x.order i k)
   passed_found =
       let p = passed_rules i m s x h in
       let o = p.0.others in

@@ -1,16 +1,16 @@
 -- The ends of a table, end by end. Assumes nothing.
 use mathlib.Core.Path.{◌≡◌, refl, sym, ap, ◌∙◌}
-use mathlib.Core.Bool.{Bool}
+use mathlib.Core.Bool.{Bool, not}
 use mathlib.Core.Logic.{⊎_elim}
 use mathlib.Core.List.{List}
 use Prim.Native.Nat.{ℕ, zero, suc, ◌+◌, ◌*◌, ◌-◌, ◌^◌, ◌≤◌, ◌<◌}
 use native.Mathlib.Omega.{arith}
 use native.Mathlib.Numerals.{add-one}
-use native.Mathlib.Nat.{eq-or-lt_of_le, le_of_suc-le-suc, le_trans, le_of_eq, le_antisymm}
+use native.Mathlib.Nat.{eq-or-lt_of_le, le_of_suc-le-suc, le_trans, le_of_eq}
 use lib.ListN.{take, length-take, length-drop}
 use lib.Seq.{slice}
 use lib.IntN.{ℤ, negsuc}
-use lib.Signed.{◌<ℤ◌, mag, lt_z, lt_z_yes, le_z_yes}
+use lib.Signed.{◌<ℤ◌, mag, le_z, lt_z_yes, le_z_yes}
 use borrow.Author.Tests.{eqb-true, eq-eqb}
 use mir.Syntax.{w64}
 use mir.Val.{to_z, of_z}
@@ -22,7 +22,7 @@ use Rattle.fields.specs.declared.Order.{Order}
 use Rattle.fields.specs.Number.{signed_at}
 use Rattle.packets.specs.Ends.{after, last_place}
 use Rattle.packets.specs.Reading.{run_length}
-use Rattle.packets.specs.declared.RunLength.{RunLength}
+use Rattle.std.specs.Prelude.{Option}
 use Rattle.packets.proofs.Ends.{Low, above, low-next, same_end, after_last, last-low}
 use Rattle.packets.proofs.Lengths.{unpacked-most}
 use Rattle.dsqdata.specs.Header.{packets_in, body_of}
@@ -31,6 +31,7 @@ use Rattle.dsqdata.specs.Check.{ends_rules}
 use Rattle.dsqdata.specs.Rules.{EndsRule}
 use Rattle.dsqdata.proofs.Bodies.{body-length}
 use Rattle.dsqdata.proofs.Named.{ends_tests, ends_tests_back}
+use Rattle.dsqdata.proofs.Signs.{lt_not}
 
 module _ (order : Order) (index : List ℕ) (table : ℕ) where
   pub end_zero : (k : ℕ) → k ≡ 0 → end_before order index table k ≡ negsuc 0
@@ -50,12 +51,8 @@ module _ (order : Order) (index : List ℕ) (table : ℕ) where
 
   -- the test of a loop that keeps the end before
   pub rises-is : (k : ℕ) {b z : ℤ} (v : Bool) → b ≡ end_before order index table k → mag z < 2 ^ 63 → z ≡ signed_at order 8 index (table + 16 * k)
-      → lt_z b (to_z w64 (of_z w64 z)) ≡ v → rises_at order index table k ≡ v
-  rises-is k v p f q h = rw (end_suc k, ← p, ← again w64 _ (signed_at order 8 index (table + 16 * k)) f q) h
-
-  -- the place after the last end, where the loop has ended
-  pub last-after : (k n : ℕ) {b : ℤ} {r : ℕ} → k ≤ n → n ≤ k → r ≡ after b → b ≡ end_before order index table k → r ≡ after (end_before order index table n)
-  last-after k n l m e p = e ∙ ap after (p ∙ ap (end_before order index table) (le_antisymm l m))
+      → le_z (to_z w64 (of_z w64 z)) b ≡ v → rises_at order index table k ≡ not v
+  rises-is k {b = b} {z = z} v p f q h = rw (end_suc k, ← p, ← again w64 _ (signed_at order 8 index (table + 16 * k)) f q) (lt_not b (to_z w64 (of_z w64 z)) v h)
 
 -- what never falls from one place to the next never falls
 mono : (g : ℕ → ℕ) (n : ℕ) → ((k : ℕ) → k < n → g k ≤ g (suc k)) → (k : ℕ) → k ≤ n → g k ≤ g n
@@ -115,7 +112,7 @@ module _ (order : Order) where
     unfolding run_at
     run_is from to e f = rw (e, f)
 
-    pub run-read : (a from to : ℕ) (r : RunLength) → from ≡ after (end_before order index packet_table k) → to ≡ after (end_before order index packet_table (suc k))
+    pub run-read : (a from to : ℕ) (r : Option ℕ) → from ≡ after (end_before order index packet_table k) → to ≡ after (end_before order index packet_table (suc k))
         → r ≡ run_length a (slice from to (body_of order sequence)) → r ≡ run_length a (run_at order index sequence k)
     run-read a from to r e f p = p ∙ ap (run_length a) (run_is from to e f)
 

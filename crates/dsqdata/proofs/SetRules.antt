@@ -4,7 +4,6 @@ use mathlib.Core.Bool.{true}
 use mathlib.Core.Logic.{⊎_elim, ◌⊎◌, inl, inr}
 use mathlib.Core.List.{List, ◌++◌}
 use Prim.Native.Nat.{ℕ, suc, ◌≤◌, ◌<◌}
-use native.Mathlib.Omega.{arith}
 use native.Mathlib.Nat.{le_antisymm, le_of_eq, eq-or-lt_of_le}
 use lib.Dec.{eqb, leb}
 use borrow.Author.Tests.{le-leb, leb-true, eq-eqb, eqb-true}
@@ -20,12 +19,12 @@ use Rattle.residues.specs.Alphabets.{is_alphabet}
 use Rattle.packets.specs.Runs.{well_formed}
 use Rattle.packets.proofs.Rules.{formed_rules, rules_formed}
 use Rattle.metadata.specs.declared.Texts.{Texts}
-use Rattle.metadata.specs.declared.Texts.TheVariants.{Lengths, Bad}
+use Rattle.std.specs.Prelude.{Option, Some, None, Ok, Err}
+use Rattle.answers.proofs.Checks.{err-not_ok}
 use Rattle.metadata.specs.Record.{texts_in, is_good, name_length, accession_length, description_length}
 use Rattle.metadata.specs.Rules.{MetadataRule}
 use Rattle.metadata.proofs.Rules.{texts_rule, rule_texts}
 use Rattle.dsqdata.specs.declared.SetRecord.{SetRecord}
-use Rattle.dsqdata.specs.declared.SetAnswer.TheVariants.{Passed, Refused}
 use Rattle.dsqdata.specs.Header.{set_order, alphabet_of, count_of, record_of, bytes_after_header, packets_in}
 use Rattle.dsqdata.specs.Ends.{metadata_table, packet_table, run_at, residues_at, metadata_start}
 use Rattle.dsqdata.specs.Records.{texts_at, name_at, accession_at, description_at}
@@ -48,9 +47,9 @@ pub rule_run : (a : ℕ) (ps : List ℕ) → well_formed a ps ≡ true → AllHo
 unfolding rules_of_run
 rule_run a ps e = (e, tt)
 
-good_texts : (x : Texts) → is_good x ≡ true → x ≡ Lengths (name_length x) (accession_length x) (description_length x)
-good_texts (Lengths n a d) h = refl
-good_texts Bad h = never h
+good_texts : (x : Option Texts) → is_good x ≡ true → x ≡ Some (record { name = name_length x; accession = accession_length x; description = description_length x })
+good_texts (Some t) h = refl
+good_texts None h = never h
 
 module _ (order : Order) (i m : List ℕ) (k : ℕ) where
   record_rule : AllHold (rules_of_record order i m k)
@@ -59,11 +58,11 @@ module _ (order : Order) (i m : List ℕ) (k : ℕ) where
   record_rule h =
       texts_rule order m (metadata_start order i k) (metadata_start order i (suc k)) _ _ _ (good_texts (texts_in order m (metadata_start order i k) (metadata_start order i (suc k))) h.0)
 
-  rule_record : (n a d : ℕ) → MetadataRule order m (metadata_start order i k) (metadata_start order i (suc k)) n a d → texts_at order i m k ≡ Lengths n a d
+  rule_record : (n a d : ℕ) → MetadataRule order m (metadata_start order i k) (metadata_start order i (suc k)) n a d → texts_at order i m k ≡ Some (record { name = n; accession = a; description = d })
   unfolding texts_at
   rule_record n a d r = rule_texts order m (metadata_start order i k) (metadata_start order i (suc k)) n a d r
 
-  record_asks : (n a d : ℕ) → texts_at order i m k ≡ Lengths n a d → AllHold (rules_of_record order i m k)
+  record_asks : (n a d : ℕ) → texts_at order i m k ≡ Some (record { name = n; accession = a; description = d }) → AllHold (rules_of_record order i m k)
   unfolding rules_of_record
   record_asks n a d e = (ap is_good e, tt)
 
@@ -152,11 +151,11 @@ module _ (order : Order) where
             body = record { whole = eq-eqb _ _ r.body_whole };
           }
 
-      texts_back : (k : ℕ) → k < count_of order i → texts_at order i m k ≡ Lengths (r.name k) (r.accession k) (r.description k)
+      texts_back : (k : ℕ) → k < count_of order i → texts_at order i m k ≡ Some (record { name = r.name k; accession = r.accession k; description = r.description k })
       texts_back k b = rule_record order i m k (r.name k) (r.accession k) (r.description k) (r.records k b)
 
       -- the longest of a text is that of the lengths that the rules name
-      longest_back : (part : Texts → ℕ) (f : ℕ → ℕ) {n : ℕ} → ((k : ℕ) → k < count_of order i → part (texts_at order i m k) ≡ f k)
+      longest_back : (part : Option Texts → ℕ) (f : ℕ → ℕ) {n : ℕ} → ((k : ℕ) → k < count_of order i → part (texts_at order i m k) ≡ f k)
           → largest_to f (count_of order i) ≡ n → eqb (largest_to (λ k. part (texts_at order i m k)) (count_of order i)) n ≡ true
       longest_back part f h e = eq-eqb _ _ (largest-same (λ k. part (texts_at order i m k)) f (count_of order i) h ∙ e)
 
@@ -218,21 +217,21 @@ module _ (order : Order) where
 -- ---- the check
 
 module _ (i m s : List ℕ) where
-  pub passed_all : (x : SetRecord) → set_check i m s ≡ Passed x → AllHold (set_rules (set_order i) i m s) × (record_of (set_order i) i ≡ x)
+  pub passed_all : (x : SetRecord) → set_check i m s ≡ Ok x → AllHold (set_rules (set_order i) i m s) × (record_of (set_order i) i ≡ x)
   unfolding set_check
   passed_all x h =
-      let v = passes_with Refused (Passed (record_of (set_order i) i)) (Passed x) (λ r e. let z : ◌≡◌ {A = ℕ} 0 1 = cc in omega arith) (set_rules (set_order i) i m s) h in
+      let v = passes_with Err (Ok (record_of (set_order i) i)) (Ok x) (λ r. err-not_ok r x) (set_rules (set_order i) i m s) h in
       let e = v.1 in
       (v.0, (cc))
 
-  pub all_passed : (order : Order) → AllHold (set_rules order i m s) → set_check i m s ≡ Passed (record_of order i)
+  pub all_passed : (order : Order) → AllHold (set_rules order i m s) → set_check i m s ≡ Ok (record_of order i)
   unfolding set_check
   all_passed order h =
       rw (order_asked order i m s (other_parts order i m s (parts_hold order i m s h).0).files)
-      (verdict-passes Refused (Passed (record_of order i)) (set_rules order i m s) h)
+      (verdict-passes Err (Ok (record_of order i)) (set_rules order i m s) h)
 
   -- A set that passes keeps the rules in the order of the record, which is that of its header fields ..
-  pub passed_rules : (x : SetRecord) → set_check i m s ≡ Passed x → SetRules x.order i m s × (record_of x.order i ≡ x)
+  pub passed_rules : (x : SetRecord) → set_check i m s ≡ Ok x → SetRules x.order i m s × (record_of x.order i ≡ x)
   passed_rules x h =
       let v = passed_all x h in
       let order = x.order in
@@ -248,7 +247,7 @@ module _ (i m s : List ℕ) where
       )
 
   -- .. and a set that keeps the rules in an order passes.
-  pub rules_passed : (order : Order) → SetRules order i m s → set_check i m s ≡ Passed (record_of order i)
+  pub rules_passed : (order : Order) → SetRules order i m s → set_check i m s ≡ Ok (record_of order i)
   rules_passed order r =
       all_passed order
       (hold_parts order i m s (rule_others order i m s r.others) (rule_ends order i packet_table (count_of order i) (packets_in s) r.packet_ends)
@@ -260,7 +259,7 @@ module _ (i m s : List ℕ) where
   -- The check answers 0 exactly where all rules of its list hold in some order ..
   pub zero-all : set_number (set_check i m s) ≡ 0 → AllHold (set_rules (set_order i) i m s)
   unfolding set_check
-  zero-all h = (zero-passes Refused (Passed (record_of (set_order i) i)) set_number (λ r. refl) (set_rules (set_order i) i m s) h).0
+  zero-all h = (zero-passes Err (Ok (record_of (set_order i) i)) set_number (λ r. refl) (set_rules (set_order i) i m s) h).0
 
   pub all-zero : (order : Order) → AllHold (set_rules order i m s)
       → (set_number (set_check i m s) ≡ 0) × (set_values (set_check i m s) ≡ set_record_values (record_of order i))

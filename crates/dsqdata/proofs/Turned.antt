@@ -22,7 +22,7 @@ use Rattle.fields.proofs.Laws.{unsigned_bytes}
 use Rattle.metadata.specs.Record.{texts_in}
 use Rattle.metadata.proofs.Moved.{texts_moved}
 use Rattle.dsqdata.specs.declared.SetRecord.{SetRecord}
-use Rattle.dsqdata.specs.declared.SetAnswer.TheVariants.{Passed, Refused}
+use Rattle.std.specs.Prelude.{Ok, Err}
 use Rattle.dsqdata.specs.Header.{set_magic, set_order, magic_of, count_of, record_of, bytes_after_header, packets_in}
 use Rattle.dsqdata.specs.Ends.{metadata_table, end_before, metadata_start}
 use Rattle.dsqdata.specs.Check.{set_rules, set_check, set_number}
@@ -244,16 +244,16 @@ module _ (i m s : List ℕ) (bi : all_below 256 i ≡ true) (bm : all_below 256 
   pub turned_number : set_number (set_check i' m' s') ≡ set_number (set_check i m s)
   unfolding set_check
   turned_number =
-      told_by set_number Refused (Passed (record_of (set_order i') i')) (set_rules (set_order i') i' m' s')
+      told_by set_number Err (Ok (record_of (set_order i') i')) (set_rules (set_order i') i' m' s')
       ∙ (sym (numbers_alike o (set_order i') i m s i' m' s' (index_length_lem o i bi) (metadata_length_lem o i m bm) (sequence_length_lem o s bs) magic_same
       (λ h. let t = start_tests o 52 i h in rw (shows_other (leb-true _ _ t.long) (eqb-true _ _ t.magic)) read_alike))
-      ∙ sym (told_by set_number Refused (Passed (record_of o i)) (set_rules o i m s)))
+      ∙ sym (told_by set_number Err (Ok (record_of o i)) (set_rules o i m s)))
 
   -- .. and where it passes, the same ten fields and the other order.
-  pub turned_passes : (set : SetRecord) → set_check i m s ≡ Passed set → set_check i' m' s' ≡ Passed (turned_record set)
+  pub turned_passes : (set : SetRecord) → set_check i m s ≡ Ok set → set_check i' m' s' ≡ Ok (turned_record set)
   turned_passes set h =
       let r = (passed_rules i m s set h).0.others in
       let e = shows_other r.index_starts (rw (order_shown set.order i r.index_magic) r.index_magic) in
       let z : set_number (set_check i' m' s') ≡ 0 = turned_number ∙ ap set_number h in
       let f : record_of (set_order i') i' ≡ turned_record (record_of o i) = rw e (record_same read_alike r.index_starts) in
-      all_passed i' m' s' (set_order i') (zero-all i' m' s' z) ∙ ap Passed (f ∙ ap turned_record (passed_all i m s set h).1)
+      all_passed i' m' s' (set_order i') (zero-all i' m' s' z) ∙ ap Ok (f ∙ ap turned_record (passed_all i m s set h).1)

@@ -1,6 +1,6 @@
 -- The set check: its rules in the order of document 01 ("A dsqdata set"), each with its refusal, and what it returns.
 -- Assumes nothing.
-use Rattle.std.specs.Prelude.{List, [], ◌∷◌, ◌++◌, ℕ, zero, suc, ◌+◌, ◌*◌, ◌%◌, eqb, leb, length}
+use Rattle.std.specs.Prelude.{List, [], ◌∷◌, ◌++◌, ℕ, zero, suc, ◌+◌, ◌*◌, ◌%◌, eqb, leb, length, Result, Ok, Err}
 use Rattle.laws.specs.Places.{every, sum_to, largest_to}
 use Rattle.laws.specs.Rules.{Rule, ask, verdict}
 use Rattle.answers.specs.Limits.{bytes_fit}
@@ -14,8 +14,6 @@ use Rattle.residues.specs.Alphabets.{is_alphabet}
 use Rattle.packets.specs.Runs.{well_formed}
 use Rattle.metadata.specs.Record.{is_good}
 use Rattle.dsqdata.specs.declared.SetRecord.{SetRecord}
-use Rattle.dsqdata.specs.declared.SetAnswer.{SetAnswer}
-use Rattle.dsqdata.specs.declared.SetAnswer.TheVariants.{Passed, Refused}
 use Rattle.dsqdata.specs.Header.{set_magic, set_order, magic_of, tag_of, alphabet_of, flags_of, count_of, record_of, bytes_after_header, packets_in}
 use Rattle.dsqdata.specs.Ends.{metadata_table, packet_table, rises_at, meets_end, run_at, residues_at}
 use Rattle.dsqdata.specs.Records.{texts_at, name_at, accession_at, description_at}
@@ -182,9 +180,9 @@ module _ (order : Order) where
       ++ rest_rules order index metadata sequence))
 
 -- The answer of the set check, in the byte order that the index shows: passing returns the set's record.
-unfoldable pub set_check : List ℕ → List ℕ → List ℕ → SetAnswer
+unfoldable pub set_check : List ℕ → List ℕ → List ℕ → Result SetRecord Refusal
 set_check index metadata sequence =
-    verdict Refused (Passed (record_of (set_order index) index)) (set_rules (set_order index) index metadata sequence)
+    verdict Err (Ok (record_of (set_order index) index)) (set_rules (set_order index) index metadata sequence)
 
 -- The number of a byte order among the values of an answer.
 abbrev pub order_number : Order → ℕ
@@ -192,9 +190,9 @@ order_number Little = 0
 order_number Big = 1
 
 -- Document 01's number of an answer, and its values: the ten header fields in file order, and the byte order.
-abbrev pub set_number : SetAnswer → ℕ
-set_number (Passed set) = 0
-set_number (Refused r) = number_of r
+abbrev pub set_number : Result SetRecord Refusal → ℕ
+set_number (Ok set) = 0
+set_number (Err r) = number_of r
 
 abbrev pub set_record_values : SetRecord → List ℕ
 set_record_values set =
@@ -211,6 +209,6 @@ set_record_values set =
     ∷ order_number set.order
     ∷ []
 
-abbrev pub set_values : SetAnswer → List ℕ
-set_values (Passed set) = set_record_values set
-set_values (Refused r) = []
+abbrev pub set_values : Result SetRecord Refusal → List ℕ
+set_values (Ok set) = set_record_values set
+set_values (Err r) = []

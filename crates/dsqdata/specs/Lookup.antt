@@ -1,6 +1,6 @@
 -- The lookup of one sequence by the set's record and the index (document 01, "A dsqdata set").
 -- Assumes nothing.
-use Rattle.std.specs.Prelude.{List, [], ◌∷◌, ◌++◌, ℕ, suc, ◌-◌, ltb, pos, negsuc}
+use Rattle.std.specs.Prelude.{List, [], ◌∷◌, ◌++◌, ℕ, suc, ◌-◌, ltb, pos, negsuc, Result, Ok, Err}
 use Rattle.std.specs.Int.Signed.{lt_z, le_z}
 use Rattle.laws.specs.Rules.{Rule, ask, verdict}
 use Rattle.answers.specs.Limits.{bytes_fit}
@@ -10,8 +10,7 @@ use Rattle.answers.specs.declared.Refusal.TheVariants.{BadOffsets, NoSuchSequenc
 use Rattle.fields.specs.declared.Order.{Order}
 use Rattle.packets.specs.Ends.{after}
 use Rattle.dsqdata.specs.declared.SetRecord.{SetRecord}
-use Rattle.dsqdata.specs.declared.LookupAnswer.{LookupAnswer}
-use Rattle.dsqdata.specs.declared.LookupAnswer.TheVariants.{Found, Refused}
+use Rattle.dsqdata.specs.declared.Located.{Located}
 use Rattle.dsqdata.specs.Ends.{metadata_table, packet_table, end_before}
 use Rattle.dsqdata.specs.Check.{count_rules}
 
@@ -42,20 +41,24 @@ lookup_rules set index number =
 
 module _ (order : Order) where
   -- Start and length, for metadata in bytes and for the run in packets.
-  abbrev pub found_at : List ℕ → ℕ → LookupAnswer
+  abbrev pub found_at : List ℕ → ℕ → Located
   found_at index number =
-      Found (record { 0 = start_at order index metadata_table number }) (length_at order index metadata_table number)
-      (record { 0 = start_at order index packet_table number }) (length_at order index packet_table number)
+      record {
+        start = record { 0 = start_at order index metadata_table number };
+        bytes = length_at order index metadata_table number;
+        run = record { 0 = start_at order index packet_table number };
+        packets = length_at order index packet_table number;
+      }
 
 -- The answer of the lookup, which reads the index in the byte order of the record.
-unfoldable pub lookup_of : SetRecord → List ℕ → ℕ → LookupAnswer
-lookup_of set index number = verdict Refused (found_at set.order index number) (lookup_rules set index number)
+unfoldable pub lookup_of : SetRecord → List ℕ → ℕ → Result Located Refusal
+lookup_of set index number = verdict Err (Ok (found_at set.order index number)) (lookup_rules set index number)
 
 -- Document 01's number of an answer, and its values: start and length of the metadata, start and length of the run.
-abbrev pub lookup_number : LookupAnswer → ℕ
-lookup_number (Found start bytes run packets) = 0
-lookup_number (Refused r) = number_of r
+abbrev pub lookup_number : Result Located Refusal → ℕ
+lookup_number (Ok found) = 0
+lookup_number (Err r) = number_of r
 
-abbrev pub lookup_values : LookupAnswer → List ℕ
-lookup_values (Found start bytes run packets) = start.0 ∷ bytes ∷ run.0 ∷ packets ∷ []
-lookup_values (Refused r) = []
+abbrev pub lookup_values : Result Located Refusal → List ℕ
+lookup_values (Ok found) = found.start.0 ∷ found.bytes ∷ found.run.0 ∷ found.packets ∷ []
+lookup_values (Err r) = []

@@ -5,16 +5,15 @@
 ghost use Rattle.std.specs.Prelude.{◌≡◌, ◌≤◌, ◌<◌, length};
 ghost use Rattle.laws.specs.Rules.{AllHold};
 ghost use Rattle.answers.specs.Limits.{checked_by};
-ghost use Rattle.dsqdata.specs.Header.{record_of, count_of};
+ghost use Rattle.dsqdata.specs.Header.{record_of};
 ghost use Rattle.dsqdata.specs.Ends.{metadata_table, packet_table};
-ghost use Rattle.dsqdata.specs.Check.{order_number, metadata_ends_rules, packet_ends_rules, content_rules, set_check};
+ghost use Rattle.dsqdata.specs.Check.{order_number, content_rules, set_check};
 ghost use Rattle.dsqdata.specs.Lookup.{part_rules, found_at, lookup_of};
 
-use answers::{Checked, MOST_BYTES, Refusal};
-use ends::{METADATA_TABLE, PACKET_TABLE};
+use answers::{MOST_BYTES, Refusal};
+use ends::Ends;
 use fields::Order;
 use packets::{BytePos, PacketPos};
-use set_runs::Runs;
 
 mod ends;
 mod header;
@@ -37,23 +36,32 @@ pub struct SetRecord {
     pub order: Order,
 }
 
+// The three files of a set.
 #[derive(Clone, Copy)]
-pub enum SetAnswer {
-    Passed(SetRecord),
-    Refused(Refusal),
+pub(crate) struct Files<'a> {
+    pub(crate) index: &'a [u8],
+    pub(crate) metadata: &'a [u8],
+    pub(crate) sequence: &'a [u8],
+}
+
+// A set of few sequences, no file of which is too long: its files, and the record that its index states.
+#[derive(Clone, Copy)]
+pub(crate) struct ReadSet<'a> {
+    pub(crate) files: Files<'a>,
+    pub(crate) stated: SetRecord,
+    ghost as_read: { stated ≡ record_of stated.order files.index.now },
+    ghost few: { stated.count ≤ 134217728 },
+    ghost short: { length files.sequence.now ≤ 2147483647 },
 }
 
 // Where one sequence stands, counted after the headers as the ends are: the start of its metadata and its length in bytes, the start of
 // its run and its length in packets.
 #[derive(Clone, Copy)]
-pub enum LookupAnswer {
-    Found {
-        start: BytePos,
-        bytes: u64,
-        run: PacketPos,
-        packets: u64,
-    },
-    Refused(Refusal),
+pub struct Located {
+    pub start: BytePos,
+    pub bytes: u64,
+    pub run: PacketPos,
+    pub packets: u64,
 }
 
 // The number that tells a byte order: 0 little-endian, 1 big-endian.
@@ -66,113 +74,72 @@ pub fn order_number(order: Order) -> u64
     }
 }
 
-// The rules of the metadata ends, and those of the packet ends.
-fn check_metadata_ends(order: Order, index: &[u8], metadata: &[u8], set: SetRecord) -> Checked
-    requires { (set ≡ record_of order index.now) × (count_of order index.now ≤ 134217728) }
-    ensures { result ≡ checked_by (metadata_ends_rules order index.now metadata.now) }
-{
-    let bytes = header::bytes_after_header(metadata);
-    ends::check_ends(order, index, METADATA_TABLE, set.count as usize, bytes)
-}
-
-fn check_packet_ends(order: Order, index: &[u8], sequence: &[u8], set: SetRecord) -> Checked
-    requires { (set ≡ record_of order index.now) × (count_of order index.now ≤ 134217728) }
-    ensures { result ≡ checked_by (packet_ends_rules order index.now sequence.now) }
-{
-    let bytes = header::bytes_after_header(sequence);
-    ends::check_ends(order, index, PACKET_TABLE, set.count as usize, bytes / 4)
-}
-
 // The rules of the ends, the runs, the metadata records and the totals.
-fn check_content(
-    order: Order,
-    index: &[u8],
-    metadata: &[u8],
-    sequence: &[u8],
-    set: SetRecord,
-) -> Checked
-    requires { (set ≡ record_of order index.now) × (count_of order index.now ≤ 134217728) × (length sequence.now ≤ 2147483647) }
-    ensures { result ≡ checked_by (content_rules order index.now metadata.now sequence.now) }
+#[tactic(auto, using(crate::proofs::Chain::parts), unfolding(crate::specs::Check::content_rules, crate::specs::Check::rest_rules, crate::specs::Scans::runs_to))]
+fn check_content(set: &ReadSet) -> Result<(), Refusal>
+    ensures { result ≡ checked_by (content_rules set.now.stated.order set.now.files.index.now set.now.files.metadata.now set.now.files.sequence.now) }
 {
-    let metadata_ends = check_metadata_ends(order, index, metadata, set);
-    if let Checked::Refused(r) = metadata_ends {
-        return Checked::Refused(r);
-    }
-    let packet_ends = check_packet_ends(order, index, sequence, set);
-    if let Checked::Refused(r) = packet_ends {
-        return Checked::Refused(r);
-    }
-    let runs = set_runs::check_runs(order, index, sequence, set.alphabet, set.count as usize);
-    match runs {
-        Runs::Refused(r) => Checked::Refused(r),
-        Runs::Totals { residues, longest } => {
-            records::check_rest(order, index, metadata, set, residues, longest)
-        }
-    }
+    let ReadSet { files, stated, .. } = *set;
+    let n = stated.count as usize;
+    let bytes = header::bytes_after_header(files.metadata);
+    Ends::metadata(stated.order, files.index).check(n, bytes)?;
+    let packets = header::bytes_after_header(files.sequence) / 4;
+    Ends::packets(stated.order, files.index).check(n, packets)?;
+    let totals = set_runs::check_runs(set)?;
+    records::check_rest(set, totals)
 }
 
 // Checks a whole set, in the byte order that its index shows; passing returns its record.
-pub fn check_set(index: &[u8], metadata: &[u8], sequence: &[u8]) -> SetAnswer
+#[tactic(auto, using(crate::proofs::Chain::parts), unfolding(crate::specs::Check::set_check, crate::specs::Check::set_rules))]
+pub fn check_set(index: &[u8], metadata: &[u8], sequence: &[u8]) -> Result<SetRecord, Refusal>
     ensures { result ≡ set_check index.now metadata.now sequence.now }
 {
     let order = header::order_of(index);
-    let files = header::check_files(order, index, metadata, sequence);
-    if let Checked::Refused(r) = files {
-        return SetAnswer::Refused(r);
-    }
-    let set = header::read_record(order, index);
-    let layout = header::check_layout(order, index, sequence, set);
-    if let Checked::Refused(r) = layout {
-        return SetAnswer::Refused(r);
-    }
-    let content = check_content(order, index, metadata, sequence, set);
-    if let Checked::Refused(r) = content {
-        return SetAnswer::Refused(r);
-    }
-    SetAnswer::Passed(set)
+    let files = Files {
+        index,
+        metadata,
+        sequence,
+    };
+    header::check_files(order, &files)?;
+    let stated = header::read_record(order, index);
+    header::check_layout(&files, stated)?;
+    check_content(&ReadSet { files, stated })?;
+    Ok(stated)
 }
 
-// The answer of a lookup whose rules hold: start and length of metadata and run.
-fn found_at(order: Order, index: &[u8], k: usize) -> LookupAnswer
+// What a lookup answers whose rules hold: start and length of metadata and run.
+fn found_at(order: Order, index: &[u8], k: usize) -> Located
     requires k_bound { k < 134217728 }
     requires all_hold { AllHold (part_rules order index.now metadata_table k) × AllHold (part_rules order index.now packet_table k) }
     ensures { result ≡ found_at order index.now k }
 {
-    let start = ends::metadata_start(order, index, k);
-    let bytes = ends::metadata_end(order, index, k).0 - start.0;
-    let run = ends::run_start(order, index, k);
-    let packets = ends::run_end(order, index, k).0 - run.0;
-    LookupAnswer::Found {
-        start,
-        bytes,
-        run,
-        packets,
+    let metadata = Ends::metadata(order, index);
+    let packets = Ends::packets(order, index);
+    let start = metadata.start(k);
+    let run = packets.start(k);
+    Located {
+        start: BytePos(start),
+        bytes: metadata.start(k + 1) - start,
+        run: PacketPos(run),
+        packets: packets.start(k + 1) - run,
     }
 }
 
 // Finds the metadata and the run of one sequence, by the record that the check returned and the index, read in the record's byte order.
-pub fn lookup(set: SetRecord, index: &[u8], number: u64) -> LookupAnswer
+#[tactic(auto, using(crate::proofs::Chain::parts), unfolding(crate::specs::Lookup::lookup_of, crate::specs::Lookup::lookup_rules))]
+pub fn lookup(set: SetRecord, index: &[u8], number: u64) -> Result<Located, Refusal>
     ensures { result ≡ lookup_of set index.now number }
 {
     if index.len() > MOST_BYTES {
-        return LookupAnswer::Refused(Refusal::TooLarge);
+        return Err(Refusal::TooLarge);
     }
-    let counted = header::check_count(index, set.count);
-    if let Checked::Refused(r) = counted {
-        return LookupAnswer::Refused(r);
-    }
+    header::check_count(index, set.count)?;
     if number >= set.count {
-        return LookupAnswer::Refused(Refusal::NoSuchSequence);
+        return Err(Refusal::NoSuchSequence);
     }
     let order = set.order;
     let k = number as usize;
-    let metadata = ends::check_part(order, index, METADATA_TABLE, k);
-    if let Checked::Refused(r) = metadata {
-        return LookupAnswer::Refused(r);
-    }
-    let packets = ends::check_part(order, index, PACKET_TABLE, k);
-    if let Checked::Refused(r) = packets {
-        return LookupAnswer::Refused(r);
-    }
-    found_at(order, index, k)
+    Ends::metadata(order, index).check_part(k)?;
+    Ends::packets(order, index).check_part(k)?;
+    Ok(found_at(order, index, k))
 }

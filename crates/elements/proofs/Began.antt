@@ -1,5 +1,5 @@
 -- An element that is read to its end, taken apart by how it begins, and put together again. Assumes nothing.
-use mathlib.Core.Path.{◌≡◌, refl, subst}
+use mathlib.Core.Path.{◌≡◌, refl, sym, subst, ◌∙◌}
 use mathlib.Core.List.{List}
 use mathlib.Core.Bool.{true, false, ◌&&◌}
 use Prim.Native.Nat.{ℕ, zero, suc, ◌+◌, ◌≤◌, ◌<◌}
@@ -9,8 +9,8 @@ use lib.ListN.{length, get_or}
 use lib.Dec.{ltb, eqb}
 use Rattle.laws.proofs.Tests.{both_pass, bool_cases}
 use Rattle.laws.proofs.Choices.{cond_elim}
-use Rattle.elements.specs.declared.ElementAnswer.{ElementAnswer}
-use Rattle.elements.specs.declared.ElementAnswer.TheVariants.{End}
+use Rattle.std.specs.Prelude.{Result, Ok}
+use Rattle.answers.specs.declared.Refusal.{Refusal}
 use Rattle.elements.specs.declared.Start.{Start}
 use Rattle.elements.specs.declared.Form.{Form}
 use Rattle.elements.specs.Grammar.{in_range, may_begin, inside}
@@ -18,7 +18,7 @@ use Rattle.elements.specs.Parts.{integer_part, text_part}
 use Rattle.elements.specs.Reading.{bad, opens, closes, begins, too_deep, end_of, start_of, closed_at, list_end, rest_of, read}
 use Rattle.elements.specs.Statement.{Byte, Close}
 use Rattle.elements.proofs.Parts.{range_parts}
-use Rattle.elements.proofs.Reading.{opens-within}
+use Rattle.elements.proofs.Reading.{opens-within, rest_started}
 
 -- ---- bytes
 
@@ -48,42 +48,42 @@ bytes-close s at c = rw (lt-ltb _ _ c.second.there, eq-eqb _ _ c.first.is, eq-eq
 pub byte_not_close : (s : List ℕ) (at : ℕ) → (get_or s at 0 ≡ 0 → ⊥) → closes s at ≡ false
 byte_not_close s at n = bool_cases (closes s at) (λ t. absurd (n (close-bytes s at t).first.is)) (λ f. f)
 
-pub bad-not_end : {A : Type 0} (n : ℕ) → bad ≡ End n → A
+pub bad-not_end : {A : Type 0} (n : ℕ) → bad ≡ Ok n → A
 bad-not_end n e = absurd (let z : ◌≡◌ {A = ℕ} 0 1 = cc in omega arith)
 
-pub same_end : (m n : ℕ) → End m ≡ End n → m ≡ n
+pub same_end : (m n : ℕ) → ◌≡◌ {A = Result ℕ Refusal} (Ok m) (Ok n) → m ≡ n
 same_end m n e = cc
 
 -- ---- how an element that ends has begun
 
-pub data Began (inner : Form → ℕ → ElementAnswer) (form : Form) (s : List ℕ) (at n : ℕ) : Type 0 where
-  integer : may_begin form 2 ≡ true → Byte s at 2 → end_of (integer_part s (at + 1)) ≡ End n → Began inner form s at n
-  text : may_begin form 26 ≡ true → Byte s at 26 → end_of (text_part s (at + 1)) ≡ End n → Began inner form s at n
-  list : may_begin form 48 ≡ true → Byte s at 48 → Byte s (at + 1) 128 → list_end (inner (inside form 48)) form (length s) 160 s (at + 2) ≡ End n
+pub data Began (inner : Form → ℕ → Result ℕ Refusal) (form : Form) (s : List ℕ) (at n : ℕ) : Type 0 where
+  integer : may_begin form 2 ≡ true → Byte s at 2 → end_of (integer_part s (at + 1)) ≡ Ok n → Began inner form s at n
+  text : may_begin form 26 ≡ true → Byte s at 26 → end_of (text_part s (at + 1)) ≡ Ok n → Began inner form s at n
+  list : may_begin form 48 ≡ true → Byte s at 48 → Byte s (at + 1) 128 → list_end (inner (inside form 48)) form (length s) 160 s (at + 2) ≡ Ok n
       → Began inner form s at n
   choice : (tag : ℕ) → 160 ≤ tag → tag ≤ 179 → may_begin form tag ≡ true → Byte s at tag → Byte s (at + 1) 128
-      → closed_at s (inner (inside form tag) (at + 2)) ≡ End n → Began inner form s at n
+      → closed_at s (inner (inside form tag) (at + 2)) ≡ Ok n → Began inner form s at n
 
-module _ (inner : Form → ℕ → ElementAnswer) (form : Form) (s : List ℕ) (at n : ℕ) where
+module _ (inner : Form → ℕ → Result ℕ Refusal) (form : Form) (s : List ℕ) (at n : ℕ) where
   began_list : (b : ℕ) → b ≡ 48 → may_begin form b ≡ true → Byte s at b → Byte s (at + 1) 128
-      → list_end (inner (inside form b)) form (length s) 160 s (at + 2) ≡ End n → Began inner form s at n
+      → list_end (inner (inside form b)) form (length s) 160 s (at + 2) ≡ Ok n → Began inner form s at n
   began_list b q m y o e =
       list (subst (λ (x : ℕ). may_begin form x ≡ true) q m) (subst (λ (x : ℕ). Byte s at x) q y) o
-      (subst (λ (x : ℕ). list_end (inner (inside form x)) form (length s) 160 s (at + 2) ≡ End n) q e)
+      (subst (λ (x : ℕ). list_end (inner (inside form x)) form (length s) 160 s (at + 2) ≡ Ok n) q e)
 
-  pub began : rest_of inner form s at (start_of form s at) ≡ End n → Began inner form s at n
+  pub began : rest_of inner form s at (start_of form s at) ≡ Ok n → Began inner form s at n
   unfolding start_of
   began =
       let b = get_or s at 0 in
-      let P : Start → Type 0 = λ x. rest_of inner form s at x ≡ End n → Began inner form s at n in
+      let P : Result Start Refusal → Type 0 = λ x. rest_of inner form s at x ≡ Ok n → Began inner form s at n in
       cond_elim P (ltb at (length s) && may_begin form b)
       (λ t.
       let p = both_pass (ltb at (length s)) (may_begin form b) t in
       let y : Byte s at b = record { there = ltb-true at (length s) p.0; is = refl } in
       let known : (k : ℕ) → eqb b k ≡ true → (may_begin form k ≡ true) × Byte s at k =
       λ k q. (subst (λ (x : ℕ). may_begin form x ≡ true) (eqb-true b k q) p.1, subst (λ (x : ℕ). Byte s at x) (eqb-true b k q) y) in
-      cond_elim P (eqb b 2) (λ q e. integer (known 2 q).0 (known 2 q).1 e)
-      (λ _. cond_elim P (eqb b 26) (λ q e. text (known 26 q).0 (known 26 q).1 e)
+      cond_elim P (eqb b 2) (λ q e. integer (known 2 q).0 (known 2 q).1 (sym (rest_started inner form s at _) ∙ e))
+      (λ _. cond_elim P (eqb b 26) (λ q e. text (known 26 q).0 (known 26 q).1 (sym (rest_started inner form s at _) ∙ e))
       (λ _. cond_elim P (opens s (at + 1))
       (λ o. cond_elim P (eqb b 48) (λ q e. began_list b (eqb-true b 48 q) p.1 y (open_byte s (at + 1) o) e)
       (λ _. cond_elim P (in_range 160 179 b)
@@ -92,13 +92,10 @@ module _ (inner : Form → ℕ → ElementAnswer) (form : Form) (s : List ℕ) (
       (λ _ e. bad-not_end n e))))
       (λ _ e. bad-not_end n e)
 
-  in_range_lem : (low high b : ℕ) → low ≤ b → b ≤ high → in_range low high b ≡ true
-  in_range_lem low high b l h = rw (le-leb _ _ l, le-leb _ _ h)
-
-  pub ends : Began inner form s at n → rest_of inner form s at (start_of form s at) ≡ End n
+  pub ends : Began inner form s at n → rest_of inner form s at (start_of form s at) ≡ Ok n
   unfolding start_of
-  ends (integer m y e) = rw (lt-ltb _ _ y.there, y.is, m) e
-  ends (text m y e) = rw (lt-ltb _ _ y.there, y.is, m) e
+  ends (integer m y e) = rw (lt-ltb _ _ y.there, y.is, m) (rest_started inner form s at _ ∙ e)
+  ends (text m y e) = rw (lt-ltb _ _ y.there, y.is, m) (rest_started inner form s at _ ∙ e)
   ends (list m y o e) = rw (lt-ltb _ _ y.there, y.is, m, byte_open s (at + 1) o) e
   ends (choice tag l h m y o e) =
       let n2 : tag ≡ 2 → ⊥ = λ z. omega arith in
@@ -107,29 +104,40 @@ module _ (inner : Form → ℕ → ElementAnswer) (form : Form) (s : List ℕ) (
       rw (lt-ltb _ _ y.there, y.is, m, ne_eqb _ _ n2, ne_eqb _ _ n26, ne_eqb _ _ n48, byte_open s (at + 1) o, le-leb _ _ l, le-leb _ _ h) e
 
 -- an element that was read begins with a byte that is not 0
-pub began_byte : {inner : Form → ℕ → ElementAnswer} {form : Form} {s : List ℕ} {at n : ℕ} → Began inner form s at n → get_or s at 0 ≡ 0 → ⊥
+pub began_byte : {inner : Form → ℕ → Result ℕ Refusal} {form : Form} {s : List ℕ} {at n : ℕ} → Began inner form s at n → get_or s at 0 ≡ 0 → ⊥
 began_byte (integer m y e) z = let q = y.is in omega arith
 began_byte (text m y e) z = let q = y.is in omega arith
 began_byte (list m y o e) z = let q = y.is in omega arith
 began_byte (choice tag l h m y o e) z = let q = y.is in omega arith
 
-no_depth : (form : Form) (s : List ℕ) (at n : ℕ) → read 0 form s at ≡ End n → ⊥
+-- and with none above B3
+began-low : {inner : Form → ℕ → Result ℕ Refusal} {form : Form} {s : List ℕ} {at n : ℕ} → Began inner form s at n → get_or s at 0 ≤ 179
+began-low (integer m y e) = let q = y.is in omega arith
+began-low (text m y e) = let q = y.is in omega arith
+began-low (list m y o e) = let q = y.is in omega arith
+began-low (choice tag l h m y o e) = let q = y.is in omega arith
+
+no_depth : (form : Form) (s : List ℕ) (at n : ℕ) → read 0 form s at ≡ Ok n → ⊥
 unfolding read too_deep
 no_depth form s at n =
-    cond_elim (λ (x : ElementAnswer). x ≡ End n → ⊥) (begins (get_or s at 0)) (λ _ e. let z : ◌≡◌ {A = ℕ} 0 1 = cc in omega arith) (λ _ e. bad-not_end n e)
+    cond_elim (λ (x : Result ℕ Refusal). x ≡ Ok n → ⊥) (begins (get_or s at 0)) (λ _ e. let z : ◌≡◌ {A = ℕ} 0 1 = cc in omega arith) (λ _ e. bad-not_end n e)
 
 -- an element is read with a depth left, and begins so
-pub read_began : (depth : ℕ) (form : Form) (s : List ℕ) (at n : ℕ) → read (suc depth) form s at ≡ End n → Began (λ i p. read depth i s p) form s at n
+pub read_began : (depth : ℕ) (form : Form) (s : List ℕ) (at n : ℕ) → read (suc depth) form s at ≡ Ok n → Began (λ i p. read depth i s p) form s at n
 unfolding read
 read_began depth form s at n e = began (λ i p. read depth i s p) form s at n e
 
-pub began_read : (depth : ℕ) (form : Form) (s : List ℕ) (at n : ℕ) → Began (λ i p. read depth i s p) form s at n → read (suc depth) form s at ≡ End n
+pub began_read : (depth : ℕ) (form : Form) (s : List ℕ) (at n : ℕ) → Began (λ i p. read depth i s p) form s at n → read (suc depth) form s at ≡ Ok n
 unfolding read
 began_read depth form s at n b = ends (λ i p. read depth i s p) form s at n b
 
-pub read_none : {A : Type 0} (form : Form) (s : List ℕ) (at n : ℕ) → read 0 form s at ≡ End n → A
+pub read_none : {A : Type 0} (form : Form) (s : List ℕ) (at n : ℕ) → read 0 form s at ≡ Ok n → A
 read_none form s at n e = absurd (no_depth form s at n e)
 
-pub read_byte : (depth : ℕ) (form : Form) (s : List ℕ) (at n : ℕ) → read depth form s at ≡ End n → get_or s at 0 ≡ 0 → ⊥
+pub read_byte : (depth : ℕ) (form : Form) (s : List ℕ) (at n : ℕ) → read depth form s at ≡ Ok n → get_or s at 0 ≡ 0 → ⊥
 read_byte zero form s at n e = read_none form s at n e
 read_byte (suc depth) form s at n e = began_byte (read_began depth form s at n e)
+
+pub read-low : (depth : ℕ) (form : Form) (s : List ℕ) (at n : ℕ) → read depth form s at ≡ Ok n → get_or s at 0 ≤ 179
+read-low zero form s at n e = read_none form s at n e
+read-low (suc depth) form s at n e = began-low (read_began depth form s at n e)

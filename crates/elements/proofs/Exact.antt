@@ -10,11 +10,9 @@ use lib.Dec.{ltb, leb, eqb}
 use Rattle.laws.specs.Digits.{value}
 use Rattle.laws.proofs.Tests.{never, cond_passed}
 use Rattle.laws.proofs.Choices.{cond_elim}
-use Rattle.elements.specs.declared.ElementAnswer.{ElementAnswer}
-use Rattle.elements.specs.declared.ElementAnswer.TheVariants.{End, Refused}
+use Rattle.std.specs.Prelude.{Result, Ok, Err}
+use Rattle.answers.specs.declared.Refusal.{Refusal}
 use Rattle.elements.specs.declared.Span.{Span}
-use Rattle.elements.specs.declared.SpanAnswer.{SpanAnswer}
-use Rattle.elements.specs.declared.SpanAnswer.TheVariants as S
 use Rattle.elements.specs.declared.Form.{Form}
 use Rattle.elements.specs.declared.Form.TheVariants as F
 use Rattle.elements.specs.Grammar.{in_range, may_follow, may_close}
@@ -29,15 +27,15 @@ use Rattle.elements.proofs.Began as B
 
 -- ---- integers and texts
 
-end_part : (x : SpanAnswer) (n : ℕ) → end_of x ≡ End n → (t : Span) × (x ≡ S.Part t) × (t.start + t.len ≡ n)
-end_part (S.Part t) n e = (t, refl, same_end _ n e)
-end_part (S.Refused r) n e = absurd (let z : ◌≡◌ {A = ℕ} 0 1 = cc in omega arith)
+end_part : (x : Result Span Refusal) (n : ℕ) → end_of x ≡ Ok n → (t : Span) × (x ≡ Ok t) × (t.start + t.len ≡ n)
+end_part (Ok t) n e = (t, refl, same_end _ n e)
+end_part (Err r) n e = absurd (let z : ◌≡◌ {A = ℕ} 0 1 = cc in omega arith)
 
 two : (at : ℕ) → at + 1 + 1 ≡ at + 2
 two at = omega arith
 
 module _ (s : List ℕ) (at n : ℕ) where
-  integer_sound : Byte s at 2 → end_of (integer_part s (at + 1)) ≡ End n → IntegerElement s at n
+  integer_sound : Byte s at 2 → end_of (integer_part s (at + 1)) ≡ Ok n → IntegerElement s at n
   integer_sound y e =
       let p = end_part (integer_part s (at + 1)) n e in
       let r = integer-read s (at + 1) p.0 p.1 in
@@ -53,7 +51,7 @@ module _ (s : List ℕ) (at n : ℕ) where
         allowed = subst (λ (k : ℕ). Z.IntegerBytes (take (get_or s (at + 1) 0) (drop k s))) (two at) (allowed-bytes _ r.allowed);
       }
 
-  integer_full : IntegerElement s at n → end_of (integer_part s (at + 1)) ≡ End n
+  integer_full : IntegerElement s at n → end_of (integer_part s (at + 1)) ≡ Ok n
   unfolding integer_part
   integer_full i =
       let a = i.ends in
@@ -62,23 +60,23 @@ module _ (s : List ℕ) (at n : ℕ) where
       let q : at + 1 + 1 + get_or s (at + 1) 0 ≡ n = omega arith in
       let w : Z.IntegerBytes (bytes_of s (at + 1 + 1) (get_or s (at + 1) 0)) =
       subst (λ (k : ℕ). Z.IntegerBytes (take (get_or s (at + 1) 0) (drop k s))) (sym (two at)) i.allowed in
-      rw (lt-ltb _ _ i.sized, le-leb _ _ h, bytes-allowed _ w) (ap End q)
+      rw (lt-ltb _ _ i.sized, le-leb _ _ h, bytes-allowed _ w) (ap Ok q)
 
-  part_sound : (p k : ℕ) → end_of (part_at s p k) ≡ End n → (p + k ≡ n) × (n ≤ length s)
+  part_sound : (p k : ℕ) → end_of (part_at s p k) ≡ Ok n → (p + k ≡ n) × (n ≤ length s)
   unfolding part_at
   part_sound p k =
-      cond_elim (λ (x : SpanAnswer). end_of x ≡ End n → (p + k ≡ n) × (n ≤ length s)) (leb (p + k) (length s))
+      cond_elim (λ (x : Result Span Refusal). end_of x ≡ Ok n → (p + k ≡ n) × (n ≤ length s)) (leb (p + k) (length s))
       (λ t e. let q : p + k ≡ n = same_end _ n e in (q, subst (λ (m : ℕ). m ≤ length s) q (leb-true _ _ t))) (λ _ e. bad-not_end n e)
 
-  part_full : (p k : ℕ) → p + k ≡ n → n ≤ length s → end_of (part_at s p k) ≡ End n
+  part_full : (p k : ℕ) → p + k ≡ n → n ≤ length s → end_of (part_at s p k) ≡ Ok n
   unfolding part_at
-  part_full p k q h = let l : p + k ≤ length s = omega arith in rw (le-leb _ _ l) (ap End q)
+  part_full p k q h = let l : p + k ≤ length s = omega arith in rw (le-leb _ _ l) (ap Ok q)
 
-  text-long : (b : ℕ) → Byte s at 26 → Byte s (at + 1) b → in_range 129 132 b ≡ true → end_of (long_part s (at + 1 + 1) (b - 128)) ≡ End n → TextElement s at n
+  text-long : (b : ℕ) → Byte s at 26 → Byte s (at + 1) b → in_range 129 132 b ≡ true → end_of (long_part s (at + 1 + 1) (b - 128)) ≡ Ok n → TextElement s at n
   unfolding long_part
   text-long b y z r =
       let g = range_parts 129 132 b r in
-      cond_elim (λ (x : SpanAnswer). end_of x ≡ End n → TextElement s at n) (leb (at + 1 + 1 + (b - 128)) (length s))
+      cond_elim (λ (x : Result Span Refusal). end_of x ≡ Ok n → TextElement s at n) (leb (at + 1 + 1 + (b - 128)) (length s))
       (λ _ e.
       let p = part_sound (at + 1 + 1 + (b - 128)) (value 8 0 (bytes_of s (at + 1 + 1) (b - 128))) e in
       let w : 128 + (b - 128) ≡ b = omega (arith, g) in
@@ -87,11 +85,11 @@ module _ (s : List ℕ) (at n : ℕ) where
       Z.long (b - 128) y (omega (arith, g)) (omega (arith, g)) (subst (λ (k : ℕ). Byte s (at + 1) k) (sym w) z) v p.1)
       (λ _ e. bad-not_end n e)
 
-  text_sound : Byte s at 26 → end_of (text_part s (at + 1)) ≡ End n → TextElement s at n
+  text_sound : Byte s at 26 → end_of (text_part s (at + 1)) ≡ Ok n → TextElement s at n
   unfolding text_part
   text_sound y =
       let b = get_or s (at + 1) 0 in
-      let P : SpanAnswer → Type 0 = λ x. end_of x ≡ End n → TextElement s at n in
+      let P : Result Span Refusal → Type 0 = λ x. end_of x ≡ Ok n → TextElement s at n in
       cond_elim P (ltb (at + 1) (length s))
       (λ t. let h : at + 1 < length s = ltb-true _ _ t in
       cond_elim P (ltb b 128)
@@ -99,7 +97,7 @@ module _ (s : List ℕ) (at n : ℕ) where
       (λ _. cond_elim P (in_range 129 132 b) (λ r e. text-long b y (record { there = h; is = refl }) r e) (λ _ e. bad-not_end n e)))
       (λ _ e. bad-not_end n e)
 
-  text_full : TextElement s at n → end_of (text_part s (at + 1)) ≡ End n
+  text_full : TextElement s at n → end_of (text_part s (at + 1)) ≡ Ok n
   unfolding text_part long_part
   text_full (Z.short y h l q f) = rw (lt-ltb _ _ h, lt-ltb _ _ l) (part_full (at + 1 + 1) (get_or s (at + 1) 0) (omega arith) f)
   text_full (Z.long k y a b z q f) =
@@ -116,28 +114,28 @@ module _ (s : List ℕ) (at n : ℕ) where
 
 -- ---- a reader that reads exactly what a relation says
 
-pub record Reads (inner : ℕ → ElementAnswer) (One : ℕ → ℕ → Type 0) : Type 0 where
-  pub sound : (q m : ℕ) → inner q ≡ End m → One q m
-  pub full : (q m : ℕ) → One q m → inner q ≡ End m
+pub record Reads (inner : ℕ → Result ℕ Refusal) (One : ℕ → ℕ → Type 0) : Type 0 where
+  pub sound : (q m : ℕ) → inner q ≡ Ok m → One q m
+  pub full : (q m : ℕ) → One q m → inner q ≡ Ok m
 
-pub then_end : (x : ElementAnswer) (more : ℕ → ElementAnswer) (n : ℕ) → and_then x more ≡ End n → (m : ℕ) × (x ≡ End m) × (more m ≡ End n)
-then_end (End m) more n e = (m, refl, e)
-then_end (Refused r) more n e = absurd (let z : ◌≡◌ {A = ℕ} 0 1 = cc in omega arith)
+pub then_end : (x : Result ℕ Refusal) (more : ℕ → Result ℕ Refusal) (n : ℕ) → and_then x more ≡ Ok n → (m : ℕ) × (x ≡ Ok m) × (more m ≡ Ok n)
+then_end (Ok m) more n e = (m, refl, e)
+then_end (Err r) more n e = absurd (let z : ◌≡◌ {A = ℕ} 0 1 = cc in omega arith)
 
-pub closed_end : (s : List ℕ) (x : ElementAnswer) (n : ℕ) → closed_at s x ≡ End n → (m : ℕ) × (x ≡ End m) × (closes s m ≡ true) × (m + 2 ≡ n)
-closed_end s (End m) n e =
+pub closed_end : (s : List ℕ) (x : Result ℕ Refusal) (n : ℕ) → closed_at s x ≡ Ok n → (m : ℕ) × (x ≡ Ok m) × (closes s m ≡ true) × (m + 2 ≡ n)
+closed_end s (Ok m) n e =
     let p = cond_passed (closes s m) (λ z. bad-not_end n z) e in
     (m, refl, p.0, same_end _ n p.1)
-closed_end s (Refused r) n e = absurd (let z : ◌≡◌ {A = ℕ} 0 1 = cc in omega arith)
+closed_end s (Err r) n e = absurd (let z : ◌≡◌ {A = ℕ} 0 1 = cc in omega arith)
 
 module _ (depth : ℕ) (i : Form) (s : List ℕ) (One : ℕ → ℕ → Type 0) (r : Reads (read depth i s) One) where
   -- elements up to 00 00, where any may follow any, and be the last
   module _ (form : Form) (follow : (low b : ℕ) → may_follow form low b ≡ true) (last : (low : ℕ) → may_close form low ≡ true) where
-    items_sound : (turns low p n : ℕ) → list_end (read depth i s) form turns low s p ≡ End n → Items One s p n
+    items_sound : (turns low p n : ℕ) → list_end (read depth i s) form turns low s p ≡ Ok n → Items One s p n
     unfolding list_end
     items_sound zero low p n e = bad-not_end n e
     items_sound (suc turns) low p n e =
-        let P : ElementAnswer → Type 0 = λ x. x ≡ End n → Items One s p n in
+        let P : Result ℕ Refusal → Type 0 = λ x. x ≡ Ok n → Items One s p n in
         cond_elim P (closes s p) (λ c e. Z.close (close-bytes s p c) (same_end _ n (rw (last low) at e)))
         (λ _. cond_elim P (may_follow form low (get_or s p 0))
         (λ _ e.
@@ -146,30 +144,30 @@ module _ (depth : ℕ) (i : Form) (s : List ℕ) (One : ℕ → ℕ → Type 0) 
         (λ _ e. bad-not_end n e))
         e
 
-    items_full : (turns low p n : ℕ) → length s < turns + p → Items One s p n → list_end (read depth i s) form turns low s p ≡ End n
+    items_full : (turns low p n : ℕ) → length s < turns + p → Items One s p n → list_end (read depth i s) form turns low s p ≡ Ok n
     unfolding list_end
     items_full zero low p n l (Z.close c q) = let w = c.first.there in absurd (omega arith)
-    items_full (suc turns) low p n l (Z.close c q) = rw (bytes-close s p c, last low) (ap End q)
+    items_full (suc turns) low p n l (Z.close c q) = rw (bytes-close s p c, last low) (ap Ok q)
     items_full zero low p n l (Z.item {q} o t) = let w = ends-within depth i s p q (r.full p q o) in absurd (omega arith)
     items_full (suc turns) low p n l (Z.item {q} o t) =
         let e = r.full p q o in
         let w = ends-within depth i s p q e in
         rw (byte_not_close s p (read_byte depth i s p q e), follow low (get_or s p 0), e) (items_full turns (get_or s p 0 + 1) q n (omega (arith, w.0)) t)
 
-    pub list_sound : (at n : ℕ) → Byte s at 48 → Byte s (at + 1) 128 → list_end (read depth i s) form (length s) 160 s (at + 2) ≡ End n → ListElement One s at n
+    pub list_sound : (at n : ℕ) → Byte s at 48 → Byte s (at + 1) 128 → list_end (read depth i s) form (length s) 160 s (at + 2) ≡ Ok n → ListElement One s at n
     list_sound at n y o e = record { tag = y; opened = o; items = items_sound (length s) 160 (at + 2) n e }
 
-    pub list_full : (at n : ℕ) → ListElement One s at n → list_end (read depth i s) form (length s) 160 s (at + 2) ≡ End n
+    pub list_full : (at n : ℕ) → ListElement One s at n → list_end (read depth i s) form (length s) 160 s (at + 2) ≡ Ok n
     list_full at n l = items_full (length s) 160 (at + 2) n (omega arith) l.items
 
   -- one element and 00 00
-  pub choice_sound : (tag at n : ℕ) → Byte s at tag → Byte s (at + 1) 128 → closed_at s (read depth i s (at + 2)) ≡ End n → ChoiceElement One s tag at n
+  pub choice_sound : (tag at n : ℕ) → Byte s at tag → Byte s (at + 1) 128 → closed_at s (read depth i s (at + 2)) ≡ Ok n → ChoiceElement One s tag at n
   choice_sound tag at n y o e =
       let c = closed_end s (read depth i s (at + 2)) n e in
       record { tagged = y; opened = o; stop = c.0; one = r.sound (at + 2) c.0 c.1; closed = close-bytes s c.0 c.2; ends = c.3 }
 
-  pub choice_full : (tag at n : ℕ) → ChoiceElement One s tag at n → closed_at s (read depth i s (at + 2)) ≡ End n
-  choice_full tag at n c = rw (r.full (at + 2) c.stop c.one, bytes-close s c.stop c.closed) (ap End c.ends)
+  pub choice_full : (tag at n : ℕ) → ChoiceElement One s tag at n → closed_at s (read depth i s (at + 2)) ≡ Ok n
+  choice_full tag at n c = rw (r.full (at + 2) c.stop c.one, bytes-close s c.stop c.closed) (ap Ok c.ends)
 
 -- ---- the forms with nothing inside, and the nesting
 

@@ -1,6 +1,5 @@
 pub mod Padded
 pub mod Parts
-pub mod Forms
 pub mod Reading
 pub mod Began
 pub mod Exact

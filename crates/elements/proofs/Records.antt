@@ -9,8 +9,8 @@ use lib.ListN.{length, get_or}
 use lib.Dec.{leb, eqb}
 use Rattle.laws.proofs.Tests.{never, bool_cases, both_pass}
 use Rattle.laws.proofs.Choices.{cond_elim}
-use Rattle.elements.specs.declared.ElementAnswer.{ElementAnswer}
-use Rattle.elements.specs.declared.ElementAnswer.TheVariants.{End}
+use Rattle.std.specs.Prelude.{Result, Ok}
+use Rattle.answers.specs.declared.Refusal.{Refusal}
 use Rattle.elements.specs.declared.RecordKind.{RecordKind}
 use Rattle.elements.specs.declared.RecordKind.TheVariants as R
 use Rattle.elements.specs.declared.Form.TheVariants as F
@@ -37,14 +37,14 @@ last-few R.DateStd = omega arith
 
 -- Reading the fields from the tag `low` on gives what `Fields` says.
 pub record FieldsRead (depth : ℕ) (s : List ℕ) (kind : RecordKind) (low : ℕ) (Fields : ℕ → ℕ → Type 0) : Type 0 where
-  pub sound : (turns p n : ℕ) → list_end (read (suc depth) (F.Field kind) s) (F.Record kind) turns low s p ≡ End n → Fields p n
-  pub full : (turns p n : ℕ) → length s < turns + p → Fields p n → list_end (read (suc depth) (F.Field kind) s) (F.Record kind) turns low s p ≡ End n
+  pub sound : (turns p n : ℕ) → list_end (read (suc depth) (F.Field kind) s) (F.Record kind) turns low s p ≡ Ok n → Fields p n
+  pub full : (turns p n : ℕ) → length s < turns + p → Fields p n → list_end (read (suc depth) (F.Field kind) s) (F.Record kind) turns low s p ≡ Ok n
 
 module _ (depth : ℕ) (s : List ℕ) (kind : RecordKind) where
-  abbrev fields_end : ℕ → ℕ → ℕ → ElementAnswer
+  abbrev fields_end : ℕ → ℕ → ℕ → Result ℕ Refusal
   fields_end turns low p = list_end (read (suc depth) (F.Field kind) s) (F.Record kind) turns low s p
 
-  first-none : {A : Type 0} (low p n : ℕ) → fields_end 0 low p ≡ End n → A
+  first-none : {A : Type 0} (low p n : ℕ) → fields_end 0 low p ≡ Ok n → A
   unfolding list_end
   first-none low p n e = bad-not_end n e
 
@@ -56,23 +56,23 @@ module _ (depth : ℕ) (s : List ℕ) (kind : RecordKind) where
 
   -- a field by its tag
   field_there : (p m : ℕ) {One : ℕ → ℕ → Type 0} (low : ℕ) → get_or s p 0 ≡ low → Reads (read depth (field_body kind low) s) One
-      → read (suc depth) (F.Field kind) s p ≡ End m → ChoiceElement One s low p m
+      → read (suc depth) (F.Field kind) s p ≡ Ok m → ChoiceElement One s low p m
   field_there p m low q r e =
       let x = read-tagged depth s (F.Field kind) (last_tag kind) (λ b. refl) p m e in
       tag-choice x low (sym x.there.is ∙ q) r
 
   -- one field, and what is behind it
   first_read : (turns low p n : ℕ) {One : ℕ → ℕ → Type 0} → 160 ≤ low → get_or s p 0 ≡ low → Reads (read depth (field_body kind low) s) One
-      → fields_end (suc turns) low p ≡ End n → (m : ℕ) × ChoiceElement One s low p m × (fields_end turns (low + 1) m ≡ End n)
+      → fields_end (suc turns) low p ≡ Ok n → (m : ℕ) × ChoiceElement One s low p m × (fields_end turns (low + 1) m ≡ Ok n)
   unfolding list_end
   first_read turns low p n a q r e =
       let shut = byte_not_close s p (λ z. omega arith) in
       let t = then_end (read (suc depth) (F.Field kind) s p) (λ m. fields_end turns (get_or s p 0 + 1) m) n (rw (shut, follows low (get_or s p 0) q) at e) in
-      (t.0, field_there p t.0 low q r t.1, subst (λ (k : ℕ). fields_end turns (k + 1) t.0 ≡ End n) q t.2)
+      (t.0, field_there p t.0 low q r t.1, subst (λ (k : ℕ). fields_end turns (k + 1) t.0 ≡ Ok n) q t.2)
 
   read_first : (turns low p m n : ℕ) {One : ℕ → ℕ → Type 0} → 160 ≤ low → low ≤ last_tag kind → Reads (read depth (field_body kind low) s) One
       → length s < turns + p → ChoiceElement One s low p m
-      → ((left : ℕ) → length s < left + m → fields_end left (low + 1) m ≡ End n) → fields_end turns low p ≡ End n
+      → ((left : ℕ) → length s < left + m → fields_end left (low + 1) m ≡ Ok n) → fields_end turns low p ≡ Ok n
   unfolding list_end
   read_first zero low p m n a h r l c more = let w = c.tagged.there in absurd (omega arith)
   read_first (suc turns) low p m n a h r l c more =
@@ -80,7 +80,7 @@ module _ (depth : ℕ) (s : List ℕ) (kind : RecordKind) where
       let w = ends-within (suc depth) (F.Field kind) s p m e in
       let q : get_or s p 0 ≡ low = c.tagged.is in
       rw (byte_not_close s p (λ z. omega arith), follows low (get_or s p 0) q, e)
-      (subst (λ (k : ℕ). fields_end turns (k + 1) m ≡ End n) (sym q) (more turns (omega (arith, w.0))))
+      (subst (λ (k : ℕ). fields_end turns (k + 1) m ≡ Ok n) (sym q) (more turns (omega (arith, w.0))))
 
   -- where an optional field is not the next one, it is past
   lower : (turns low p : ℕ) → optional_from kind ≤ low → (get_or s p 0 ≡ low → ⊥) → fields_end turns low p ≡ fields_end turns (low + 1) p
@@ -95,7 +95,7 @@ module _ (depth : ℕ) (s : List ℕ) (kind : RecordKind) where
       rw (le-leb _ _ o, le-leb _ _ more, same)
 
   -- and it is not the next one where it is past
-  past : (turns low p n : ℕ) → 160 ≤ low → fields_end turns (low + 1) p ≡ End n → get_or s p 0 ≡ low → ⊥
+  past : (turns low p n : ℕ) → 160 ≤ low → fields_end turns (low + 1) p ≡ Ok n → get_or s p 0 ≡ low → ⊥
   unfolding list_end
   past zero low p n a e q = bad-not_end n e
   past (suc turns) low p n a e q =
@@ -104,17 +104,17 @@ module _ (depth : ℕ) (s : List ℕ) (kind : RecordKind) where
 
   module _ (low : ℕ) {One More : ℕ → ℕ → Type 0} (r : Reads (read depth (field_body kind low) s) One) (more : FieldsRead depth s kind (low + 1) More) where
     -- a required field that is not the next one
-    missed : (turns p n : ℕ) {A : Type 0} → low < optional_from kind → (get_or s p 0 ≡ low → ⊥) → fields_end turns low p ≡ End n → A
+    missed : (turns p n : ℕ) {A : Type 0} → low < optional_from kind → (get_or s p 0 ≡ low → ⊥) → fields_end turns low p ≡ Ok n → A
     unfolding list_end
     missed zero p n short q e = bad-not_end n e
     missed (suc turns) p n {A} short q e =
-        let P : ElementAnswer → Type 0 = λ x. x ≡ End n → A in
+        let P : Result ℕ Refusal → Type 0 = λ x. x ≡ Ok n → A in
         cond_elim P (closes s p) (λ _ e. bad-not_end n (rw (lt-leb _ _ short) at e))
         (λ _. cond_elim P (may_follow (F.Record kind) low (get_or s p 0))
         (λ f _. never (rw (lt-leb _ _ short, ne_eqb _ _ q) at (both_pass (leb low (get_or s p 0)) _ f).1)) (λ _ e. bad-not_end n e))
         e
 
-    needed : (turns p n : ℕ) → 160 ≤ low → low < optional_from kind → fields_end turns low p ≡ End n → Required s low One More p n
+    needed : (turns p n : ℕ) → 160 ≤ low → low < optional_from kind → fields_end turns low p ≡ Ok n → Required s low One More p n
     needed zero p n a short e = first-none low p n e
     needed (suc turns) p n a short e =
         bool_cases (eqb (get_or s p 0) low)
@@ -132,7 +132,7 @@ module _ (depth : ℕ) (s : List ℕ) (kind : RecordKind) where
           full = λ turns p n l t. read_first turns low p t.stop n g.0 g.1 r l t.first (λ left h. more.full left t.stop n h t.more);
         }
 
-    perhaps : (turns p n : ℕ) → 160 ≤ low → optional_from kind ≤ low → fields_end turns low p ≡ End n → Optional s low One More p n
+    perhaps : (turns p n : ℕ) → 160 ≤ low → optional_from kind ≤ low → fields_end turns low p ≡ Ok n → Optional s low One More p n
     perhaps zero p n a o e = first-none low p n e
     perhaps (suc turns) p n a o e =
         bool_cases (eqb (get_or s p 0) low)
@@ -141,10 +141,10 @@ module _ (depth : ℕ) (s : List ℕ) (kind : RecordKind) where
         (λ q. record { stop = p; first = Z.absent refl; more = more.sound (suc turns) p n (sym (lower (suc turns) low p o (eqb-false _ _ q)) ∙ e) })
 
     put : (turns p n : ℕ) → 160 ≤ low → low ≤ last_tag kind → optional_from kind ≤ low → length s < turns + p
-        → (stop : ℕ) → Maybe (ChoiceElement One s low) p stop → More stop n → fields_end turns low p ≡ End n
+        → (stop : ℕ) → Maybe (ChoiceElement One s low) p stop → More stop n → fields_end turns low p ≡ Ok n
     put turns p n a h o l stop (Z.given c) m = read_first turns low p stop n a h r l c (λ left k. more.full left stop n k m)
     put turns p n a h o l stop (Z.absent q) m =
-        let e : fields_end turns (low + 1) p ≡ End n = more.full turns p n l (subst (λ (k : ℕ). More k n) (sym q) m) in
+        let e : fields_end turns (low + 1) p ≡ Ok n = more.full turns p n l (subst (λ (k : ℕ). More k n) (sym q) m) in
         lower turns low p o (past turns low p n a e) ∙ e
 
     pub optional : in_range 160 (last_tag kind) low && leb (optional_from kind) low ≡ true → FieldsRead depth s kind low (Optional s low One More)
@@ -156,11 +156,11 @@ module _ (depth : ℕ) (s : List ℕ) (kind : RecordKind) where
 
   -- no field is left
   module _ (low : ℕ) where
-    done : (turns p n : ℕ) → last_tag kind < low → leb (optional_from kind) low ≡ true → fields_end turns low p ≡ End n → Ended s p n
+    done : (turns p n : ℕ) → last_tag kind < low → leb (optional_from kind) low ≡ true → fields_end turns low p ≡ Ok n → Ended s p n
     unfolding list_end
     done zero p n h o e = bad-not_end n e
     done (suc turns) p n h o e =
-        let P : ElementAnswer → Type 0 = λ x. x ≡ End n → Ended s p n in
+        let P : Result ℕ Refusal → Type 0 = λ x. x ≡ Ok n → Ended s p n in
         cond_elim P (closes s p) (λ c e. record { close = close-bytes s p c; ends = same_end _ n (rw o at e) })
         (λ _. cond_elim P (may_follow (F.Record kind) low (get_or s p 0))
         (λ f e.
@@ -171,10 +171,10 @@ module _ (depth : ℕ) (s : List ℕ) (kind : RecordKind) where
         (λ _ e. bad-not_end n e))
         e
 
-    close : (turns p n : ℕ) → leb (optional_from kind) low ≡ true → length s < turns + p → Ended s p n → fields_end turns low p ≡ End n
+    close : (turns p n : ℕ) → leb (optional_from kind) low ≡ true → length s < turns + p → Ended s p n → fields_end turns low p ≡ Ok n
     unfolding list_end
     close zero p n o l t = let w = t.close.first.there in absurd (omega arith)
-    close (suc turns) p n o l t = rw (bytes-close s p t.close, o) (ap End t.ends)
+    close (suc turns) p n o l t = rw (bytes-close s p t.close, o) (ap Ok t.ends)
 
     pub ended : leb (last_tag kind + 1) low && leb (optional_from kind) low ≡ true → FieldsRead depth s kind low (Ended s)
     ended w =

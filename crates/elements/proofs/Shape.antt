@@ -6,7 +6,7 @@ use Prim.Native.Nat.{ℕ, suc, ◌≤◌}
 use native.Mathlib.Omega.{arith}
 use lib.Dec.{eqb}
 use Rattle.laws.proofs.Tests.{never}
-use Rattle.elements.specs.declared.ElementAnswer.TheVariants.{End}
+use Rattle.std.specs.Prelude.{Ok}
 use Rattle.elements.specs.declared.RecordKind.TheVariants as R
 use Rattle.elements.specs.declared.Form.{Form}
 use Rattle.elements.specs.declared.Form.TheVariants as F
@@ -142,7 +142,7 @@ module _ (s : List ℕ) where
   pub identifier_reads : Reads (read 12 F.Identifier s) (IdentifierElement s)
   identifier_reads = record { sound = go; full = back }
     where
-      go : (at n : ℕ) → read 12 F.Identifier s at ≡ End n → IdentifierElement s at n
+      go : (at n : ℕ) → read 12 F.Identifier s at ≡ Ok n → IdentifierElement s at n
       go at n e =
           let x = read-tagged 11 s F.Identifier 179 (λ b. refl) at n e in
           tag_cases 160 x.tag x.first (λ q. Z.local (tag-choice x 160 q (object_id_reads 9 s)))
@@ -167,10 +167,10 @@ module _ (s : List ℕ) where
           (λ l. let m = x.most in let q : x.tag ≡ 179 = omega arith in Z.named_annot_track (tag-choice x 179 q (textseq_id_reads 8 s)))))))))))))))))))))
 
       choose : {One : ℕ → ℕ → Type 0} (tag at n : ℕ) → 160 ≤ tag → tag ≤ 179 → Reads (read 11 (inside F.Identifier tag) s) One → ChoiceElement One s tag at n
-          → read 12 F.Identifier s at ≡ End n
+          → read 12 F.Identifier s at ≡ Ok n
       choose tag at n l h r c = tagged-read 11 s F.Identifier 179 (λ b. refl) tag at n (omega arith) l h r c
 
-      back : (at n : ℕ) → IdentifierElement s at n → read 12 F.Identifier s at ≡ End n
+      back : (at n : ℕ) → IdentifierElement s at n → read 12 F.Identifier s at ≡ Ok n
       back at n (Z.local c) = choose 160 at n (omega arith) (omega arith) (object_id_reads 9 s) c
       back at n (Z.gibbsq c) = choose 161 at n (omega arith) (omega arith) (integer-reads 10 s) c
       back at n (Z.gibbmt c) = choose 162 at n (omega arith) (omega arith) (integer-reads 10 s) c

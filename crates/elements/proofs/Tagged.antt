@@ -6,7 +6,7 @@ use native.Mathlib.Omega.{arith}
 use borrow.Author.Tests.{le-leb, eqb-true, eqb-false}
 use lib.Dec.{eqb}
 use Rattle.laws.proofs.Tests.{never, bool_cases}
-use Rattle.elements.specs.declared.ElementAnswer.TheVariants.{End}
+use Rattle.std.specs.Prelude.{Ok}
 use Rattle.elements.specs.declared.Form.{Form}
 use Rattle.elements.specs.Grammar.{in_range, may_begin, inside}
 use Rattle.elements.specs.Reading.{closed_at, read}
@@ -24,11 +24,11 @@ pub record TagRead (depth : ℕ) (form : Form) (last : ℕ) (s : List ℕ) (at n
   pub most : tag ≤ last
   pub there : Byte s at tag
   pub opened : Byte s (at + 1) 128
-  pub body : closed_at s (read depth (inside form tag) s (at + 2)) ≡ End n
+  pub body : closed_at s (read depth (inside form tag) s (at + 2)) ≡ Ok n
 
 module _ (depth : ℕ) (s : List ℕ) (form : Form) (last : ℕ) (begin : (b : ℕ) → may_begin form b ≡ in_range 160 last b) where
   -- it begins with one of these tags
-  pub read-tagged : (at n : ℕ) → read (suc depth) form s at ≡ End n → TagRead depth form last s at n
+  pub read-tagged : (at n : ℕ) → read (suc depth) form s at ≡ Ok n → TagRead depth form last s at n
   read-tagged at n e = go (read_began depth form s at n e)
     where
       go : Began (λ i p. read depth i s p) form s at n → TagRead depth form last s at n
@@ -40,7 +40,7 @@ module _ (depth : ℕ) (s : List ℕ) (form : Form) (last : ℕ) (begin : (b : �
 
   -- and is read where its tag is one of them
   pub tagged-read : {One : ℕ → ℕ → Type 0} (tag at n : ℕ) → last ≤ 179 → 160 ≤ tag → tag ≤ last → Reads (read depth (inside form tag) s) One
-      → ChoiceElement One s tag at n → read (suc depth) form s at ≡ End n
+      → ChoiceElement One s tag at n → read (suc depth) form s at ≡ Ok n
   tagged-read {One} tag at n few l h r c =
       began_read depth form s at n
       (B.choice tag l (omega arith) (begin tag ∙ rw (le-leb _ _ l, le-leb _ _ h)) c.tagged c.opened
@@ -51,7 +51,7 @@ pub tag-choice : {depth last : ℕ} {form : Form} {s : List ℕ} {at n : ℕ} (x
     → Reads (read depth (inside form k) s) One → ChoiceElement One s k at n
 tag-choice {depth} {last} {form} {s} {at} {n} x {One} k q r =
     choice_sound depth (inside form k) s One r k at n (subst (λ (y : ℕ). Byte s at y) q x.there) x.opened
-    (subst (λ (y : ℕ). closed_at s (read depth (inside form y) s (at + 2)) ≡ End n) q x.body)
+    (subst (λ (y : ℕ). closed_at s (read depth (inside form y) s (at + 2)) ≡ Ok n) q x.body)
 
 -- tags from A0 on, one after another
 pub tag_cases : {A : Type 0} (k tag : ℕ) → k ≤ tag → (tag ≡ k → A) → (k + 1 ≤ tag → A) → A
@@ -63,12 +63,12 @@ pub either_reads : (depth : ℕ) (s : List ℕ) (form : Form) → ((b : ℕ) →
     → Reads (read (suc depth) form s) (EitherElement First Second s)
 either_reads depth s form begin {First} {Second} one two = record { sound = go; full = back }
   where
-    go : (at n : ℕ) → read (suc depth) form s at ≡ End n → EitherElement First Second s at n
+    go : (at n : ℕ) → read (suc depth) form s at ≡ Ok n → EitherElement First Second s at n
     go at n e =
         let x = read-tagged depth s form 161 begin at n e in
         tag_cases 160 x.tag x.first (λ q. Z.first (tag-choice x 160 q one))
         (λ l. let m = x.most in let q : x.tag ≡ 161 = omega arith in Z.second (tag-choice x 161 q two))
 
-    back : (at n : ℕ) → EitherElement First Second s at n → read (suc depth) form s at ≡ End n
+    back : (at n : ℕ) → EitherElement First Second s at n → read (suc depth) form s at ≡ Ok n
     back at n (Z.first c) = tagged-read depth s form 161 begin 160 at n (omega arith) (omega arith) (omega arith) one c
     back at n (Z.second c) = tagged-read depth s form 161 begin 161 at n (omega arith) (omega arith) (omega arith) two c

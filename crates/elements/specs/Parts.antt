@@ -1,15 +1,12 @@
 -- The bytes of an integer and of a text, and the integer that bytes write.
 -- Assumes nothing.
-use Rattle.std.specs.Prelude.{ℕ, ◌+◌, ◌-◌, ◌≤◌, List, Bool, cond, not, ◌&&◌, length, get_or, take, drop, ltb, leb, eqb, ℤ}
+use Rattle.std.specs.Prelude.{ℕ, ◌+◌, ◌-◌, ◌≤◌, List, Bool, cond, not, ◌&&◌, length, get_or, take, drop, ltb, leb, eqb, ℤ, Result, Ok, Err}
 use Rattle.laws.specs.Digits.{value}
 use Rattle.laws.specs.Places.{every}
 use Rattle.fields.specs.Number.{signed}
 use Rattle.answers.specs.declared.Refusal.TheVariants.{BadHeader}
 use Rattle.elements.specs.declared.Span.{Span}
-use Rattle.elements.specs.declared.SpanAnswer.{SpanAnswer}
-use Rattle.elements.specs.declared.SpanAnswer.TheVariants as S
-use Rattle.elements.specs.declared.IntegerAnswer.{IntegerAnswer}
-use Rattle.elements.specs.declared.IntegerAnswer.TheVariants as I
+use Rattle.answers.specs.declared.Refusal.{Refusal}
 use Rattle.elements.specs.Grammar.{in_range}
 use Rattle.elements.specs.Statement.{bit_at}
 
@@ -22,8 +19,8 @@ abbrev pub bytes_of : List ℕ → ℕ → ℕ → List ℕ
 bytes_of s at n = take n (drop at s)
 
 -- n bytes from a place on, which may not run past the end (20).
-unfoldable pub part_at : List ℕ → ℕ → ℕ → SpanAnswer
-part_at s at n = cond (leb (at + n) (length s)) (S.Part (span at n)) (S.Refused BadHeader)
+unfoldable pub part_at : List ℕ → ℕ → ℕ → Result Span Refusal
+part_at s at n = cond (leb (at + n) (length s)) (Ok (span at n)) (Err BadHeader)
 
 -- A padded integer has more than one byte, and its first nine bits are all equal (request 2026-06).
 abbrev pub is_padded : List ℕ → Bool
@@ -34,41 +31,41 @@ unfoldable pub integer_allowed : List ℕ → Bool
 integer_allowed bytes = leb 1 (length bytes) && leb (length bytes) 8 && not (is_padded bytes)
 
 -- The bytes of an integer whose length stands at a place: a length in one byte, and so many bytes of an allowed integer.
-unfoldable pub integer_part : List ℕ → ℕ → SpanAnswer
+unfoldable pub integer_part : List ℕ → ℕ → Result Span Refusal
 integer_part s at =
     cond (ltb at (length s) && leb (at + 1 + get_or s at 0) (length s) && integer_allowed (bytes_of s (at + 1) (get_or s at 0)))
-    (S.Part (span (at + 1) (get_or s at 0)))
-    (S.Refused BadHeader)
+    (Ok (span (at + 1) (get_or s at 0)))
+    (Err BadHeader)
 
 -- The text after a length of k bytes, big-endian, which stands at a place.
-unfoldable pub long_part : List ℕ → ℕ → ℕ → SpanAnswer
-long_part s at k = cond (leb (at + k) (length s)) (part_at s (at + k) (value 8 0 (bytes_of s at k))) (S.Refused BadHeader)
+unfoldable pub long_part : List ℕ → ℕ → ℕ → Result Span Refusal
+long_part s at k = cond (leb (at + k) (length s)) (part_at s (at + k) (value 8 0 (bytes_of s at k))) (Err BadHeader)
 
 -- The bytes of a text whose length stands at a place: the length is below 128 in one byte, or 81 to 84 and that many bytes.
-unfoldable pub text_part : List ℕ → ℕ → SpanAnswer
+unfoldable pub text_part : List ℕ → ℕ → Result Span Refusal
 text_part s at =
     cond (ltb at (length s))
     (cond (ltb (get_or s at 0) 128) (part_at s (at + 1) (get_or s at 0))
-    (cond (in_range 129 132 (get_or s at 0)) (long_part s (at + 1) (get_or s at 0 - 128)) (S.Refused BadHeader)))
-    (S.Refused BadHeader)
+    (cond (in_range 129 132 (get_or s at 0)) (long_part s (at + 1) (get_or s at 0 - 128)) (Err BadHeader)))
+    (Err BadHeader)
 
 -- A part lies within a file.
-abbrev pub Within : List ℕ → SpanAnswer → Type 0
-Within s (S.Part t) = t.start + t.len ≤ length s
-Within s (S.Refused r) = Unit
+abbrev pub Within : List ℕ → Result Span Refusal → Type 0
+Within s (Ok t) = t.start + t.len ≤ length s
+Within s (Err r) = Unit
 
 -- The two's complement number of some bytes, the first one highest.
 abbrev pub integer_of : List ℕ → ℕ → ℕ → ℤ
 integer_of s at n = signed n (value 8 0 (bytes_of s at n))
 
-abbrev pub integer_in : List ℕ → SpanAnswer → IntegerAnswer
-integer_in s (S.Part t) = I.Integer (integer_of s t.start t.len)
-integer_in s (S.Refused r) = I.Refused r
+abbrev pub integer_in : List ℕ → Result Span Refusal → Result ℤ Refusal
+integer_in s (Ok t) = Ok (integer_of s t.start t.len)
+integer_in s (Err r) = Err r
 
 -- The integer element at a place: 02, its length, its bytes.
-unfoldable pub integer_at : List ℕ → ℕ → IntegerAnswer
-integer_at s at = cond (eqb (get_or s at 0) 2) (integer_in s (integer_part s (at + 1))) (I.Refused BadHeader)
+unfoldable pub integer_at : List ℕ → ℕ → Result ℤ Refusal
+integer_at s at = cond (eqb (get_or s at 0) 2) (integer_in s (integer_part s (at + 1))) (Err BadHeader)
 
 -- The text element at a place: 1A, its length, its bytes.
-unfoldable pub text_at : List ℕ → ℕ → SpanAnswer
-text_at s at = cond (eqb (get_or s at 0) 26) (text_part s (at + 1)) (S.Refused BadHeader)
+unfoldable pub text_at : List ℕ → ℕ → Result Span Refusal
+text_at s at = cond (eqb (get_or s at 0) 26) (text_part s (at + 1)) (Err BadHeader)

@@ -3,13 +3,13 @@
 
 mod grammar;
 
-ghost use Rattle.std.specs.Prelude.{◌≡◌, ◌+◌, ◌^◌, ◌≤◌, length};
+ghost use Rattle.std.specs.Prelude.{◌≡◌, ◌≤◌, length, Ok, Err};
 ghost use Rattle.laws.specs.Digits.{value};
-ghost use Rattle.elements.specs.Parts.{bytes_of, part_at, is_padded, integer_allowed, integer_part, long_part, text_part, Within, integer_of, integer_at, text_at};
-ghost use Rattle.elements.specs.Reading.{opens, closes, begins, too_deep, end_of, start_of, closed_at, read};
+ghost use Rattle.elements.specs.Parts.{part_at, is_padded, integer_allowed, integer_part, long_part, text_part, integer_at, text_at};
+ghost use Rattle.elements.specs.Reading.{opens, closes, begins, too_deep, start_of, closed_at, read};
+ghost use Rattle.elements.specs.Shortest.{twos_complement};
 
 use answers::Refusal;
-use grammar::{form_inside, in_range, may_begin, may_close, may_follow};
 
 // The records of source 001, which have fields.
 #[derive(Clone, Copy)]
@@ -49,323 +49,227 @@ pub struct Span {
     pub len: usize,
 }
 
-// Where the bytes of an integer or a text stand.
-#[derive(Clone, Copy)]
-pub enum SpanAnswer {
-    Part(Span),
-    Refused(Refusal),
-}
-
-// An integer that was read.
-#[derive(Clone, Copy)]
-pub enum IntegerAnswer {
-    Integer(i64),
-    Refused(Refusal),
-}
-
-// Where an element ends.
-#[derive(Clone, Copy)]
-pub enum ElementAnswer {
-    End(usize),
-    Refused(Refusal),
-}
-
 // How an element begins: it is read to its end, or it is a list or a choice, with the form of what stands inside.
 #[derive(Clone, Copy)]
 pub enum Start {
-    Ended(ElementAnswer),
+    Ended(usize),
     List(Form),
     Choice(Form),
 }
 
 // n bytes from a place on, which may not run past the end.
-fn part_at(s: &[u8], at: usize, n: usize) -> SpanAnswer
+fn part_at(s: &[u8], at: usize, n: usize) -> Result<Span, Refusal>
     requires { at ≤ length s.now }
     ensures { result ≡ part_at s.now at n }
 {
     if s.len() - at < n {
-        return SpanAnswer::Refused(Refusal::BadHeader);
+        return Err(Refusal::BadHeader);
     }
-    SpanAnswer::Part(Span { start: at, len: n })
+    Ok(Span { start: at, len: n })
 }
 
-// Whether the n bytes at a place are a padded integer: the first nine bits of more than one byte are all 0 or all 1.
-fn is_padded(s: &[u8], at: usize, n: usize) -> bool
-    requires { at + n ≤ length s.now }
-    ensures { result ≡ is_padded (bytes_of s.now at n) }
+// Whether some bytes are a padded integer: the first nine bits of more than one byte are all 0 or all 1.
+fn is_padded(bytes: &[u8]) -> bool
+    ensures { result ≡ is_padded bytes.now }
 {
-    if n <= 1 {
+    if bytes.len() <= 1 {
         return false;
     }
-    let first = s[at] as u32;
-    let second = s[at + 1] as u32;
+    let first = u32::from(bytes[0]);
+    let second = u32::from(bytes[1]);
     let nine = first * 2 + second / 128;
-    if nine == 0 {
-        return true;
-    }
-    nine == 511
+    nine == 0 || nine == 511
 }
 
-// Whether the n bytes at a place are an integer's.
-fn integer_allowed(s: &[u8], at: usize, n: usize) -> bool
-    requires { at + n ≤ length s.now }
-    ensures { result ≡ integer_allowed (bytes_of s.now at n) }
+// Whether some bytes are an integer's.
+fn integer_allowed(bytes: &[u8]) -> bool
+    ensures { result ≡ integer_allowed bytes.now }
 {
-    if n < 1 {
-        return false;
-    }
-    if 8 < n {
-        return false;
-    }
-    !is_padded(s, at, n)
+    (1..=8).contains(&bytes.len()) && !is_padded(bytes)
 }
 
 // The bytes of an integer whose length stands at a place.
-fn integer_part(s: &[u8], at: usize) -> SpanAnswer
+fn integer_part(s: &[u8], at: usize) -> Result<Span, Refusal>
     ensures { result ≡ integer_part s.now at }
 {
     if s.len() <= at {
-        return SpanAnswer::Refused(Refusal::BadHeader);
+        return Err(Refusal::BadHeader);
     }
-    let n = fields::byte(s, at) as usize;
-    if s.len() - (at + 1) < n {
-        return SpanAnswer::Refused(Refusal::BadHeader);
+    let part = part_at(s, at + 1, usize::from(s[at]))?;
+    if !integer_allowed(&s[part.start..part.start + part.len]) {
+        return Err(Refusal::BadHeader);
     }
-    if !integer_allowed(s, at + 1, n) {
-        return SpanAnswer::Refused(Refusal::BadHeader);
-    }
-    SpanAnswer::Part(Span {
-        start: at + 1,
-        len: n,
-    })
+    Ok(part)
 }
 
-// The big-endian number of k bytes at a place.
-fn number_at(s: &[u8], at: usize, k: usize) -> u64
-    requires { (at + k ≤ length s.now) × (k ≤ 8) }
-    ensures { result ≡ value 8 0 (bytes_of s.now at k) }
+// The big-endian number of at most eight bytes.
+fn number(bytes: &[u8]) -> u64
+    requires { length bytes.now ≤ 8 }
+    ensures { result ≡ value 8 0 bytes.now }
 {
     let mut x: u64 = 0;
-    let mut i: usize = 0;
-    while i < k {
-        x = x * 256 + fields::byte(s, at + i) as u64;
-        i += 1;
+    for b in bytes {
+        x = x * 256 + u64::from(*b);
     }
     x
 }
 
 // The text after a length of k bytes.
-fn long_part(s: &[u8], at: usize, k: usize) -> SpanAnswer
+fn long_part(s: &[u8], at: usize, k: usize) -> Result<Span, Refusal>
     requires { (at ≤ length s.now) × (k ≤ 8) }
     ensures { result ≡ long_part s.now at k }
 {
     if s.len() - at < k {
-        return SpanAnswer::Refused(Refusal::BadHeader);
+        return Err(Refusal::BadHeader);
     }
-    let n = number_at(s, at, k) as usize;
+    let n = number(&s[at..at + k]) as usize;
     part_at(s, at + k, n)
 }
 
 // The bytes of a text whose length stands at a place.
-fn text_part(s: &[u8], at: usize) -> SpanAnswer
+fn text_part(s: &[u8], at: usize) -> Result<Span, Refusal>
     ensures { result ≡ text_part s.now at }
 {
     if s.len() <= at {
-        return SpanAnswer::Refused(Refusal::BadHeader);
+        return Err(Refusal::BadHeader);
     }
-    let b = fields::byte(s, at) as u32;
-    if b < 128 {
-        return part_at(s, at + 1, b as usize);
+    let b = usize::from(s[at]);
+    match b {
+        0..128 => part_at(s, at + 1, b),
+        129..=132 => long_part(s, at + 1, b - 128),
+        _ => Err(Refusal::BadHeader),
     }
-    if !in_range(129, 132, b) {
-        return SpanAnswer::Refused(Refusal::BadHeader);
-    }
-    long_part(s, at + 1, (b - 128) as usize)
 }
 
 // Whether the byte 80 stands at a place.
 fn opens_at(s: &[u8], at: usize) -> bool
     ensures { result ≡ opens s.now at }
 {
-    if s.len() <= at {
-        return false;
-    }
-    s[at] == 128
+    at < s.len() && s[at] == 128
 }
 
 // Whether 00 00 stands at a place.
 pub fn closes_at(s: &[u8], at: usize) -> bool
     ensures { result ≡ closes s.now at }
 {
-    if s.len() <= at {
+    if s.len() <= at || s.len() - at < 2 {
         return false;
     }
-    if s.len() - at < 2 {
-        return false;
-    }
-    if s[at] != 0 {
-        return false;
-    }
-    s[at + 1] == 0
+    s[at] == 0 && s[at + 1] == 0
 }
 
 // Whether a byte begins an element.
-fn begins_element(b: u32) -> bool
+fn begins_element(b: u8) -> bool
     ensures { result ≡ begins b }
 {
-    if b == 2 {
-        return true;
-    }
-    if b == 26 {
-        return true;
-    }
-    if b == 48 {
-        return true;
-    }
-    in_range(160, 179, b)
+    matches!(b, 2 | 26 | 48 | 160..=179)
 }
 
 // The refusal at depth 17.
-fn too_deep(s: &[u8], at: usize) -> ElementAnswer
-    ensures { result ≡ too_deep s.now at }
+fn too_deep(s: &[u8], at: usize) -> Refusal
+    ensures { Err result ≡ too_deep s.now at }
 {
-    if begins_element(fields::byte(s, at) as u32) {
-        return ElementAnswer::Refused(Refusal::TooDeep);
+    if begins_element(fields::byte(s, at)) {
+        return Refusal::TooDeep;
     }
-    ElementAnswer::Refused(Refusal::BadHeader)
-}
-
-// Where an integer or a text ends.
-fn part_end(s: &[u8], part: SpanAnswer) -> ElementAnswer
-    requires { Within s.now part }
-    ensures { result ≡ end_of part }
-{
-    match part {
-        SpanAnswer::Part(t) => ElementAnswer::End(t.start + t.len),
-        SpanAnswer::Refused(r) => ElementAnswer::Refused(r),
-    }
+    Refusal::BadHeader
 }
 
 // How an element of a form begins.
-fn start_of(s: &[u8], at: usize, form: Form) -> Start
+fn start_of(s: &[u8], at: usize, form: Form) -> Result<Start, Refusal>
     ensures { result ≡ start_of form s.now at }
 {
     if s.len() <= at {
-        return Start::Ended(ElementAnswer::Refused(Refusal::BadHeader));
+        return Err(Refusal::BadHeader);
     }
-    let b = fields::byte(s, at) as u32;
-    if !may_begin(form, b) {
-        return Start::Ended(ElementAnswer::Refused(Refusal::BadHeader));
+    let b = s[at];
+    if !form.may_begin(b) {
+        return Err(Refusal::BadHeader);
     }
     if b == 2 {
-        let e = part_end(s, integer_part(s, at + 1));
-        return Start::Ended(e);
+        let part = integer_part(s, at + 1)?;
+        return Ok(Start::Ended(part.start + part.len));
     }
     if b == 26 {
-        let e = part_end(s, text_part(s, at + 1));
-        return Start::Ended(e);
+        let part = text_part(s, at + 1)?;
+        return Ok(Start::Ended(part.start + part.len));
     }
     if !opens_at(s, at + 1) {
-        return Start::Ended(ElementAnswer::Refused(Refusal::BadHeader));
+        return Err(Refusal::BadHeader);
     }
-    if b == 48 {
-        let i = form_inside(form, b);
-        return Start::List(i);
+    match b {
+        48 => Ok(Start::List(form.inside(b))),
+        160..=179 => Ok(Start::Choice(form.inside(b))),
+        _ => Err(Refusal::BadHeader),
     }
-    if in_range(160, 179, b) {
-        let i = form_inside(form, b);
-        return Start::Choice(i);
-    }
-    Start::Ended(ElementAnswer::Refused(Refusal::BadHeader))
 }
 
 // 00 00 behind the one element of a choice.
-fn closed(s: &[u8], e: ElementAnswer) -> ElementAnswer
-    ensures { result ≡ closed_at s.now e }
+fn closed(s: &[u8], n: usize) -> Result<usize, Refusal>
+    ensures { result ≡ closed_at s.now (Ok n) }
 {
-    let ElementAnswer::End(n) = e else {
-        return e;
-    };
     if closes_at(s, n) {
-        return ElementAnswer::End(n + 2);
+        return Ok(n + 2);
     }
-    ElementAnswer::Refused(Refusal::BadHeader)
+    Err(Refusal::BadHeader)
 }
 
 // Reads the element at a place by a form, with so many depths left.
-fn element_within(s: &[u8], at: usize, form: Form, depth: u32) -> ElementAnswer
+fn element_within(s: &[u8], at: usize, form: Form, depth: u32) -> Result<usize, Refusal>
     ensures { result ≡ read depth form s.now at }
 {
     if depth == 0 {
-        return too_deep(s, at);
+        return Err(too_deep(s, at));
     }
-    match start_of(s, at, form) {
-        Start::Ended(answer) => answer,
+    match start_of(s, at, form)? {
+        Start::Ended(end) => Ok(end),
         Start::Choice(inner) => {
-            let e = element_within(s, at + 2, inner, depth - 1);
-            closed(s, e)
+            let end = element_within(s, at + 2, inner, depth - 1)?;
+            closed(s, end)
         }
         Start::List(inner) => {
             let mut p = at + 2;
-            let mut low: u32 = 160;
+            let mut low: u8 = 160;
             while !closes_at(s, p) {
-                let b = fields::byte(s, p) as u32;
-                if !may_follow(form, low, b) {
-                    return ElementAnswer::Refused(Refusal::BadHeader);
+                let b = fields::byte(s, p);
+                if !form.may_follow(low, b) {
+                    return Err(Refusal::BadHeader);
                 }
-                let e = element_within(s, p, inner, depth - 1);
-                let ElementAnswer::End(n) = e else {
-                    return e;
-                };
+                p = element_within(s, p, inner, depth - 1)?;
                 low = b + 1;
-                p = n;
             }
-            if !may_close(form, low) {
-                return ElementAnswer::Refused(Refusal::BadHeader);
+            if !form.may_close(low) {
+                return Err(Refusal::BadHeader);
             }
-            ElementAnswer::End(p + 2)
+            Ok(p + 2)
         }
     }
 }
 
 // Reads the element at a place by a form; it and what is inside it may go 16 deep.
-pub fn element(s: &[u8], at: usize, form: Form) -> ElementAnswer
+pub fn element(s: &[u8], at: usize, form: Form) -> Result<usize, Refusal>
     ensures { result ≡ read 16 form s.now at }
 {
     element_within(s, at, form, 16)
 }
 
 // The text element at a place.
-pub fn text(s: &[u8], at: usize) -> SpanAnswer
+pub fn text(s: &[u8], at: usize) -> Result<Span, Refusal>
     ensures { result ≡ text_at s.now at }
 {
     if fields::byte(s, at) != 26 {
-        return SpanAnswer::Refused(Refusal::BadHeader);
+        return Err(Refusal::BadHeader);
     }
     text_part(s, at + 1)
 }
 
-// The largest number of n bytes.
-fn largest(n: usize) -> u64
-    requires { n ≤ 8 }
-    ensures { result + 1 ≡ 256 ^ n }
+// The two's complement number of one to eight bytes.
+fn signed(bytes: &[u8]) -> i64
+    requires { (1 ≤ length bytes.now) × (length bytes.now ≤ 8) }
+    ensures { result ≡ twos_complement bytes.now }
 {
-    let mut x: u64 = 0;
-    let mut i: usize = 0;
-    while i < n {
-        x = x * 256 + 255;
-        i += 1;
-    }
-    x
-}
-
-// The two's complement number of n bytes at a place.
-fn signed_at(s: &[u8], at: usize, n: usize) -> i64
-    requires { (at + n ≤ length s.now) × (1 ≤ n) × (n ≤ 8) }
-    ensures { result ≡ integer_of s.now at n }
-{
-    let x = number_at(s, at, n);
-    let most = largest(n);
+    let x = number(bytes);
+    let most = u64::MAX >> (64 - 8 * bytes.len());
     if x <= most / 2 {
         return x as i64;
     }
@@ -373,19 +277,12 @@ fn signed_at(s: &[u8], at: usize, n: usize) -> i64
 }
 
 // The integer element at a place.
-pub fn integer(s: &[u8], at: usize) -> IntegerAnswer
+pub fn integer(s: &[u8], at: usize) -> Result<i64, Refusal>
     ensures { result ≡ integer_at s.now at }
 {
     if fields::byte(s, at) != 2 {
-        return IntegerAnswer::Refused(Refusal::BadHeader);
+        return Err(Refusal::BadHeader);
     }
-    match integer_part(s, at + 1) {
-        SpanAnswer::Refused(r) => IntegerAnswer::Refused(r),
-        SpanAnswer::Part(t) => {
-            let start = t.start;
-            let len = t.len;
-            let z = signed_at(s, start, len);
-            IntegerAnswer::Integer(z)
-        }
-    }
+    let part = integer_part(s, at + 1)?;
+    Ok(signed(&s[part.start..part.start + part.len]))
 }

@@ -7,7 +7,7 @@ use native.Mathlib.Omega.{arith}
 use native.Mathlib.Nat.{add-zero, mod-eq_of_lt}
 use native.Mathlib.Numerals.{add-one, add-two, add-three}
 use lib.ListN.{length, get_or, take, drop, get_or-eq_default}
-use lib.Pow.{mod-pow-add}
+use lib.Pow.{mod-pow-add, pow-add}
 use lib.Seq.{drop-cons}
 use lib.Dec.{ltb, leb}
 use borrow.Author.Tests.{le-leb, lt-leb, leb-true, leb-false}
@@ -16,7 +16,9 @@ use lib.Signed.{mag}
 use mir.Syntax.{Width, w8, w16, w32, w64, w128}
 use mir.Val.{to_z, of_z, sel, bytes, hbits}
 use mir.ValLaws.{to_z-of_z}
-use Rattle.laws.specs.Digits.{value}
+use Rattle.laws.specs.Digits.{value, digits}
+use Rattle.std.specs.Int.{byte_at, bytes_low_first, bytes_high_first}
+use Rattle.std.proofs.Math.Nat.{div-div-eq-div-mul}
 use Rattle.laws.specs.Writing.{written_at}
 use Rattle.laws.proofs.Digits.{length_digits, value-digits}
 use Rattle.laws.proofs.Tests.{bool_cases}
@@ -24,7 +26,7 @@ use Rattle.laws.proofs.Writing.{length_written}
 use Rattle.fields.specs.declared.Order.{Order}
 use Rattle.fields.specs.declared.Order.TheVariants.{Big, Little}
 use Rattle.fields.specs.Number.{big, little, number, bytes_at, unsigned_at, signed, signed_at}
-use Rattle.fields.specs.Written.{little_bytes, number_bytes, number_put}
+use Rattle.fields.specs.Written.{little_bytes, number_bytes, bytes_put, number_put}
 
 pub unsigned_bytes : (order : Order) (w : ℕ) (file : List ℕ) (at : ℕ) → unsigned_at order w file at ≡ number order (bytes_at w file at 0)
 unfolding unsigned_at
@@ -48,12 +50,6 @@ pub signed_field : (order : Order) (w : Width) (file : List ℕ) (at : ℕ) {r :
 unfolding signed_at
 signed_field order w file at h e f = to_z-of_z w _ (record { sfits = h }) ∙ (e ∙ ap (signed (bytes w)) f)
 
--- the complement of the complement, as the code makes a negative number
-pub signed_high : (w : Width) (m n : ℕ) → n ≤ m → to_z w (m - (m - n)) ≡ signed (bytes w) n
-signed_high w m n h =
-    let e : m - (m - n) ≡ n = omega arith in
-    ap (to_z w) e ∙ machine_signed w n
-
 pub past_end : (file : List ℕ) (at : ℕ) → length file ≤ at → 0 ≡ get_or file at 0
 past_end file at h = sym (get_or-eq_default file 0 h)
 
@@ -75,13 +71,6 @@ four_bytes file at k = rw (add-one k, add-two k, add-three k)
 pub four_read : (file : List ℕ) (at k : ℕ) {a b c d : ℕ} → a ≡ get_or file (at + k) 0 → b ≡ get_or file (at + (k + 1)) 0
     → c ≡ get_or file (at + (k + 2)) 0 → d ≡ get_or file (at + (k + 3)) 0 → ◌≡◌ {A = List ℕ} (a ∷ b ∷ c ∷ d ∷ []) (bytes_at 4 file at k)
 four_read file at k e f g h = rw (four_bytes file at k, e, f, g, h)
-
--- their little-endian number
-pub little_four : (file : List ℕ) (at k a b c d : ℕ) → a ≡ get_or file (at + k) 0 → b ≡ get_or file (at + (k + 1)) 0
-    → c ≡ get_or file (at + (k + 2)) 0 → d ≡ get_or file (at + (k + 3)) 0 → a + b * 256 + c * 65536 + d * 16777216 ≡ number little (bytes_at 4 file at k)
-little_four file at k a b c d e f g h =
-    let n : a + b * 256 + c * 65536 + d * 16777216 ≡ number little (a ∷ b ∷ c ∷ d ∷ []) = omega arith in
-    n ∙ ap (number little) (four_read file at k e f g h)
 
 -- a lowest byte put before the others, at every width
 low_byte : (w b n : ℕ) → b < 256 → little_bytes (suc w) (b + 256 * n) ≡ b ∷ little_bytes w n
@@ -184,3 +173,36 @@ number_back order w n file at h l e =
     ap (number order) (bytes_inside w file at 0 (omega arith) ∙ ap (λ (x : ℕ). take w (drop x file)) k ∙ e)
     ∙ bytes-number order w n
     ∙ mod-eq_of_lt l
+
+-- ---- std's bytes of a number
+
+byte_there : (i n : ℕ) → byte_at i n ≡ n / 256 ^ i % 256
+byte_there zero n = let e : n / 1 ≡ n = omega arith in rw e
+byte_there (suc i) n = refl
+
+low-first : (i w n : ℕ) → bytes_low_first i w n ≡ little_bytes w (n / 256 ^ i)
+low-first i zero n = refl
+low-first i (suc w) n =
+    let e : n / 256 ^ i / 256 ≡ n / 256 ^ suc i = div-div-eq-div-mul n (256 ^ i) 256 ∙ ap (λ (x : ℕ). n / x) (omega arith) in
+    rw (byte_there i n, e, low-first (suc i) w n)
+
+byte_power : (w : ℕ) → 256 ^ w ≡ 2 ^ (8 * w)
+byte_power zero = refl
+byte_power (suc w) = let e : 8 * suc w ≡ 8 * w + 8 = omega arith in rw (e, pow-add 2 (8 * w) 8) (omega (arith, byte_power w))
+
+high-first : (w n : ℕ) → bytes_high_first w n ≡ digits 8 w n
+unfolding digits
+high-first zero n = refl
+high-first (suc w) n = rw (byte_there w n, high-first w n, byte_power w)
+
+-- the lowest first, and the highest first
+pub bytes-little : (w n : ℕ) → bytes_low_first 0 w n ≡ number_bytes little w n
+bytes-little w n = let e : n / 256 ^ 0 ≡ n = omega arith in low-first 0 w n ∙ rw e
+
+pub bytes-big : (w n : ℕ) → bytes_high_first w n ≡ number_bytes big w n
+bytes-big w n = high-first w n
+
+-- the bytes of a number put, where the code has made them
+pub put_by : (order : Order) (w at n : ℕ) (bytes range : List ℕ) → bytes ≡ number_bytes order w n → bytes_put at bytes range ≡ number_put order w at n range
+unfolding number_put
+put_by order w at n bytes range e = rw (e, length-number order w n)

@@ -16,6 +16,10 @@ abbrev pub number_bytes : Order → ℕ → ℕ → List ℕ
 number_bytes Big w n = digits 8 w n
 number_bytes Little w n = little_bytes w n
 
+-- The range with some bytes at a place; as it was where they do not fit.
+abbrev pub bytes_put : ℕ → List ℕ → List ℕ → List ℕ
+bytes_put at bytes range = cond (leb (at + length bytes) (length range)) (written_at at bytes range) range
+
 -- The range with the w bytes of a number at a place; as it was where they do not fit.
 unfoldable pub number_put : Order → ℕ → ℕ → ℕ → List ℕ → List ℕ
 number_put order w at n range = cond (leb (at + w) (length range)) (written_at at (number_bytes order w n) range) range

@@ -4,15 +4,15 @@
 
 mod sizes;
 
-ghost use Rattle.std.specs.Prelude.{◌≡◌, [], ◌∷◌, ◌+◌, ◌*◌, ◌≤◌, ◌<◌, leb, length, get_or};
+ghost use Rattle.std.specs.Prelude.{◌≡◌, [], ◌∷◌, ◌+◌, ◌*◌, ◌≤◌, ◌<◌, leb, length, get_or, List, ℕ};
 ghost use Rattle.fields.specs.Number.{big, little, number, bytes_at, unsigned_at, signed, signed_at};
 ghost use Rattle.laws.specs.Writing.{written_at};
-ghost use Rattle.fields.specs.Written.{little_bytes, number_bytes, number_put};
+ghost use Rattle.fields.specs.Written.{little_bytes, bytes_put, number_put};
 
 pub use sizes::{natural_at, not_negative_at};
 
 // The byte orders.
-#[derive(Clone, Copy)]
+#[derive(Clone, Copy, Debug, PartialEq, Eq)]
 pub enum Order {
     Big,
     Little,
@@ -22,10 +22,7 @@ pub enum Order {
 pub fn byte(s: &[u8], at: usize) -> u8
     ensures { result ≡ get_or s.now at 0 }
 {
-    if s.len() <= at {
-        return 0;
-    }
-    s[at]
+    s.get(at).copied().unwrap_or(0)
 }
 
 // The byte k places past a place.
@@ -45,18 +42,7 @@ fn byte_past(s: &[u8], at: usize, k: usize) -> u8
 fn fits(len: usize, at: usize, w: usize) -> bool
     ensures { result ≡ leb (at + w) len }
 {
-    if len < w {
-        return false;
-    }
-    at <= len - w
-}
-
-// A byte as a wider number.
-fn wide(b: u8) -> u32
-    ensures value { result ≡ b }
-    ensures small { result < 256 }
-{
-    b as u32
+    w <= len && at <= len - w
 }
 
 // Four bytes as one number, the first the lowest.
@@ -64,7 +50,7 @@ pub fn word(a: u8, b: u8, c: u8, d: u8) -> u32
     ensures value { result ≡ a + b * 256 + c * 65536 + d * 16777216 }
     ensures bytes { little_bytes 4 result ≡ a ∷ b ∷ c ∷ d ∷ [] }
 {
-    wide(a) + wide(b) * 256 + wide(c) * 65536 + wide(d) * 16777216
+    u32::from_le_bytes([a, b, c, d])
 }
 
 // The four bytes from place at + k on as one number, where all lie in the slice: one load.
@@ -91,32 +77,13 @@ fn four(s: &[u8], at: usize, k: usize) -> u32
     )
 }
 
-// The number of a word's bytes, little-endian.
-fn little_endian(bytes: u32) -> u32
-    ensures { result ≡ number little (little_bytes 4 bytes) }
-{
-    bytes
-}
-
-// The number of a word's bytes, big-endian.
-fn big_endian(bytes: u32) -> u32
-    ensures { result ≡ number big (little_bytes 4 bytes) }
-{
-    word(
-        (bytes / 256 / 256 / 256 % 256) as u8,
-        (bytes / 256 / 256 % 256) as u8,
-        (bytes / 256 % 256) as u8,
-        (bytes % 256) as u8,
-    )
-}
-
 // The number of a word's bytes, in an order.
 pub fn number_by(order: Order, bytes: u32) -> u32
     ensures { result ≡ number order (little_bytes 4 bytes) }
 {
     match order {
-        Order::Big => big_endian(bytes),
-        Order::Little => little_endian(bytes),
+        Order::Big => bytes.swap_bytes(),
+        Order::Little => bytes,
     }
 }
 
@@ -124,195 +91,106 @@ pub fn number_by(order: Order, bytes: u32) -> u32
 fn joined(high: u32, low: u32) -> u64
     ensures { result ≡ high * 4294967296 + low }
 {
-    (high as u64) * 4294967296 + (low as u64)
+    u64::from(high) * 4294967296 + u64::from(low)
 }
 
-// The unsigned field of four bytes at a place, big-endian.
-pub fn be_u32(s: &[u8], at: usize) -> u32
-    ensures { result ≡ unsigned_at big 4 s.now at }
-{
-    big_endian(four(s, at, 0))
+// An integer of four or eight bytes, as a file holds it: unsigned, or in two's complement.
+pub trait Integer: Copy {
+    ghost use Rattle.fields.specs.declared.Order.{Order};
+
+    // The integer that stands at a place of a file, in a byte order.
+    ghost at: { Order → List ℕ → ℕ → Self };
+
+    // Reads the integer at a place.
+    fn read(order: Order, file: &[u8], place: usize) -> Self
+        ensures { result ≡ at order file.now place };
 }
 
-// The unsigned field of four bytes at a place, little-endian.
-pub fn le_u32(s: &[u8], at: usize) -> u32
-    ensures { result ≡ unsigned_at little 4 s.now at }
-{
-    little_endian(four(s, at, 0))
-}
+impl Integer for u32 {
+    ghost at = { λ order file place. unsigned_at order 4 file place };
 
-// The unsigned field of eight bytes at a place, big-endian.
-pub fn be_u64(s: &[u8], at: usize) -> u64
-    ensures { result ≡ unsigned_at big 8 s.now at }
-{
-    let high = big_endian(four(s, at, 0));
-    let low = big_endian(four(s, at, 4));
-    joined(high, low)
-}
-
-// The unsigned field of eight bytes at a place, little-endian.
-pub fn le_u64(s: &[u8], at: usize) -> u64
-    ensures { result ≡ unsigned_at little 8 s.now at }
-{
-    let low = little_endian(four(s, at, 0));
-    let high = little_endian(four(s, at, 4));
-    joined(high, low)
-}
-
-// The two's complement number of four bytes.
-fn signed4(n: u32) -> i32
-    ensures { result ≡ signed 4 n }
-{
-    if n < 0x8000_0000 {
-        return n as i32;
-    }
-    !((0xffff_ffff - n) as i32)
-}
-
-// The two's complement number of eight bytes.
-fn signed8(n: u64) -> i64
-    ensures { result ≡ signed 8 n }
-{
-    if n < 0x8000_0000_0000_0000 {
-        return n as i64;
-    }
-    !((0xffff_ffff_ffff_ffff - n) as i64)
-}
-
-// The two's complement field of four bytes at a place, big-endian.
-pub fn be_i32(s: &[u8], at: usize) -> i32
-    ensures { result ≡ signed_at big 4 s.now at }
-{
-    signed4(be_u32(s, at))
-}
-
-// The two's complement field of eight bytes at a place, big-endian.
-pub fn be_i64(s: &[u8], at: usize) -> i64
-    ensures { result ≡ signed_at big 8 s.now at }
-{
-    signed8(be_u64(s, at))
-}
-
-// The two's complement field of four bytes at a place, little-endian.
-pub fn le_i32(s: &[u8], at: usize) -> i32
-    ensures { result ≡ signed_at little 4 s.now at }
-{
-    signed4(le_u32(s, at))
-}
-
-// The two's complement field of eight bytes at a place, little-endian.
-pub fn le_i64(s: &[u8], at: usize) -> i64
-    ensures { result ≡ signed_at little 8 s.now at }
-{
-    signed8(le_u64(s, at))
-}
-
-// The unsigned field of four bytes at a place, in an order.
-pub fn u32_at(order: Order, s: &[u8], at: usize) -> u32
-    ensures { result ≡ unsigned_at order 4 s.now at }
-{
-    number_by(order, four(s, at, 0))
-}
-
-// The unsigned field of eight bytes at a place, in an order.
-pub fn u64_at(order: Order, s: &[u8], at: usize) -> u64
-    ensures { result ≡ unsigned_at order 8 s.now at }
-{
-    match order {
-        Order::Big => be_u64(s, at),
-        Order::Little => le_u64(s, at),
+    fn read(order: Order, file: &[u8], place: usize) -> u32 {
+        number_by(order, four(file, place, 0))
     }
 }
 
-// The two's complement field of four bytes at a place, in an order.
-pub fn i32_at(order: Order, s: &[u8], at: usize) -> i32
-    ensures { result ≡ signed_at order 4 s.now at }
-{
-    match order {
-        Order::Big => be_i32(s, at),
-        Order::Little => le_i32(s, at),
+impl Integer for u64 {
+    ghost at = { λ order file place. unsigned_at order 8 file place };
+
+    fn read(order: Order, file: &[u8], place: usize) -> u64 {
+        let first = number_by(order, four(file, place, 0));
+        let last = number_by(order, four(file, place, 4));
+        match order {
+            Order::Big => joined(first, last),
+            Order::Little => joined(last, first),
+        }
     }
 }
 
-// The two's complement field of eight bytes at a place, in an order.
-pub fn i64_at(order: Order, s: &[u8], at: usize) -> i64
-    ensures { result ≡ signed_at order 8 s.now at }
-{
-    match order {
-        Order::Big => be_i64(s, at),
-        Order::Little => le_i64(s, at),
+impl Integer for i32 {
+    ghost at = { λ order file place. signed_at order 4 file place };
+
+    fn read(order: Order, file: &[u8], place: usize) -> i32 {
+        u32::read(order, file, place).cast_signed()
     }
 }
 
-// Writes the low w bytes of a number at a place, the lowest first.
-fn put_little_bytes(out: &mut [u8], at: usize, w: usize, n: u64)
-    requires { at + w ≤ length out.old }
-    ensures { out.new ≡ written_at at (number_bytes little w n) out.old }
-{
-    let mut rest = n;
-    let mut j: usize = 0;
-    while j < w {
-        out[at + j] = (rest % 256) as u8;
-        rest = rest / 256;
-        j += 1;
+impl Integer for i64 {
+    ghost at = { λ order file place. signed_at order 8 file place };
+
+    fn read(order: Order, file: &[u8], place: usize) -> i64 {
+        u64::read(order, file, place).cast_signed()
     }
 }
 
-// Writes the low w bytes of a number at a place, the highest first.
-fn put_big_bytes(out: &mut [u8], at: usize, w: usize, n: u64)
-    requires { (at + w ≤ length out.old) × (w ≤ 8) }
-    ensures { out.new ≡ written_at at (number_bytes big w n) out.old }
+// The integer at a place of a file, in a byte order.
+pub fn read<T: Integer>(order: Order, file: &[u8], place: usize) -> T
+    ensures { result ≡ T.at order file.now place }
 {
-    let mut j: usize = 0;
-    while j < w {
-        out[at + j] = ((n >> (8 * (w - (j + 1)))) % 256) as u8;
-        j += 1;
+    T::read(order, file, place)
+}
+
+// Writes bytes at a place; nothing where they do not fit.
+fn put_bytes(bytes: &[u8], out: &mut [u8], at: usize)
+    ensures { out.new ≡ bytes_put at bytes.now out.old }
+{
+    if fits(out.len(), at, bytes.len()) {
+        out[at..at + bytes.len()].copy_from_slice(bytes);
     }
 }
 
-// Writes the low w bytes of a number at a place, little-endian, or nothing where they do not fit.
-fn put_little(out: &mut [u8], at: usize, w: usize, n: u64)
-    ensures { out.new ≡ number_put little w at n out.old }
-{
-    if fits(out.len(), at, w) {
-        put_little_bytes(out, at, w, n);
+// An unsigned number of four or eight bytes, which can be written.
+pub trait Unsigned: Integer {
+    ghost use Rattle.fields.specs.declared.Order.{Order};
+
+    // The range with the number's bytes at a place, in a byte order; as it was where they do not fit.
+    ghost put_at: { Order → ℕ → Self → List ℕ → List ℕ };
+
+    // Writes the number's bytes at a place; nothing where they do not fit.
+    fn put(self, order: Order, out: &mut [u8], place: usize)
+        ensures { out.new ≡ put_at order place self out.old };
+}
+
+impl Unsigned for u32 {
+    ghost put_at = { λ order place n range. number_put order 4 place n range };
+
+    fn put(self, order: Order, out: &mut [u8], place: usize) {
+        let four = match order {
+            Order::Big => self.to_be_bytes(),
+            Order::Little => self.to_le_bytes(),
+        };
+        put_bytes(&four, out, place);
     }
 }
 
-// Writes the low w bytes of a number at a place, big-endian, or nothing where they do not fit.
-fn put_big(out: &mut [u8], at: usize, w: usize, n: u64)
-    requires { w ≤ 8 }
-    ensures { out.new ≡ number_put big w at n out.old }
-{
-    if fits(out.len(), at, w) {
-        put_big_bytes(out, at, w, n);
+impl Unsigned for u64 {
+    ghost put_at = { λ order place n range. number_put order 8 place n range };
+
+    fn put(self, order: Order, out: &mut [u8], place: usize) {
+        let eight = match order {
+            Order::Big => self.to_be_bytes(),
+            Order::Little => self.to_le_bytes(),
+        };
+        put_bytes(&eight, out, place);
     }
-}
-
-// Writes a number's four bytes at a place, big-endian; nothing where they do not fit.
-pub fn put_be_u32(out: &mut [u8], at: usize, n: u32)
-    ensures { out.new ≡ number_put big 4 at n out.old }
-{
-    put_big(out, at, 4, n as u64);
-}
-
-// Writes a number's four bytes at a place, little-endian; nothing where they do not fit.
-pub fn put_le_u32(out: &mut [u8], at: usize, n: u32)
-    ensures { out.new ≡ number_put little 4 at n out.old }
-{
-    put_little(out, at, 4, n as u64);
-}
-
-// Writes a number's eight bytes at a place, big-endian; nothing where they do not fit.
-pub fn put_be_u64(out: &mut [u8], at: usize, n: u64)
-    ensures { out.new ≡ number_put big 8 at n out.old }
-{
-    put_big(out, at, 8, n);
-}
-
-// Writes a number's eight bytes at a place, little-endian; nothing where they do not fit.
-pub fn put_le_u64(out: &mut [u8], at: usize, n: u64)
-    ensures { out.new ≡ number_put little 8 at n out.old }
-{
-    put_little(out, at, 8, n);
 }

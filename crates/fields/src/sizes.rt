@@ -4,13 +4,13 @@ ghost use Rattle.std.specs.Int.Signed.{non_neg};
 ghost use Rattle.laws.specs.Signed.{to_nat};
 ghost use Rattle.fields.specs.Number.{big, signed_at};
 
-use super::be_i32;
+use super::{Order, read};
 
 // Whether the integer at a place is not negative.
 pub fn not_negative_at(file: &[u8], at: usize) -> bool
     ensures { result ≡ non_neg (signed_at big 4 file.now at) }
 {
-    0 <= be_i32(file, at)
+    !read::<i32>(Order::Big, file, at).is_negative()
 }
 
 // The size or place that the integer at a place states; 0 for a negative one.
@@ -18,9 +18,5 @@ pub fn natural_at(file: &[u8], at: usize) -> usize
     ensures value { result ≡ to_nat (signed_at big 4 file.now at) }
     ensures small { result < 2147483648 }
 {
-    let n = be_i32(file, at);
-    if n < 0 {
-        return 0;
-    }
-    n as usize
+    read::<i32>(Order::Big, file, at).max(0) as usize
 }

@@ -1,56 +1,59 @@
 // The names of the kinds of identifier, as source 001 writes them.
 #![tactic(auto)]
 
-ghost use Rattle.std.specs.Prelude.{◌≡◌};
-ghost use Rattle.kinds.specs.Names.{put_answer, written_by, name_answer, name_output};
+ghost use Rattle.std.specs.Prelude.{◌≡◌, ◌≤◌};
+ghost use Rattle.kinds.specs.Names.{kind_name, put_answer, written_by, name_answer, name_output};
 
 use answers::Refusal;
 
-// The answer of the name call: how many bytes the name has.
-#[derive(Clone, Copy)]
-pub enum NameAnswer {
-    Name(usize),
-    Refused(Refusal),
+// The name of a kind, by its tag.
+fn name_of(kind: u32) -> &'static str
+    requires { (160 ≤ kind) × (kind ≤ 179) }
+    ensures { result.now ≡ kind_name kind }
+{
+    match kind {
+        160 => "local",
+        161 => "gibbsq",
+        162 => "gibbmt",
+        163 => "giim",
+        164 => "genbank",
+        165 => "embl",
+        166 => "pir",
+        167 => "swissprot",
+        168 => "patent",
+        169 => "other",
+        170 => "general",
+        171 => "gi",
+        172 => "ddbj",
+        173 => "prf",
+        174 => "pdb",
+        175 => "tpg",
+        176 => "tpe",
+        177 => "tpd",
+        178 => "gpipe",
+        _ => "named-annot-track",
+    }
 }
 
-// The twenty names in source 001's order.
-const NAMES: [u8; 124] =
-    *b"local gibbsq gibbmt giim genbank embl pir swissprot patent other general gi ddbj prf pdb tpg tpe tpd gpipe named-annot-track";
-
-// Where each name starts in them; each but the last has a space behind it.
-const STARTS: [u8; 21] = [
-    0, 6, 13, 20, 25, 33, 38, 42, 52, 59, 65, 73, 76, 81, 85, 89, 93, 97, 101, 107, 125,
-];
-
-// Writes a name into a range.
-fn put_name(name: &[u8], out: &mut [u8]) -> NameAnswer
+// Writes a name into a range, and answers how many bytes it has.
+fn put_name(name: &[u8], out: &mut [u8]) -> Result<usize, Refusal>
     ensures value { result ≡ put_answer name.now out.old }
     ensures out_after { out.new ≡ written_by result name.now out.old }
 {
     if out.len() < name.len() {
-        return NameAnswer::Refused(Refusal::NoRoom);
+        return Err(Refusal::NoRoom);
     }
-    let mut i: usize = 0;
-    while i < name.len() {
-        out[i] = name[i];
-        i += 1;
-    }
-    NameAnswer::Name(i)
+    out[..name.len()].copy_from_slice(name);
+    Ok(name.len())
 }
 
-// The name of a kind, by its tag.
-pub fn kind_name(kind: u32, out: &mut [u8]) -> NameAnswer
+// The name of a kind, by its tag, and how many bytes it has.
+pub fn kind_name(kind: u32, out: &mut [u8]) -> Result<usize, Refusal>
     ensures value { result ≡ name_answer kind out.old }
     ensures out_after { out.new ≡ name_output kind out.old }
 {
-    if kind < 160 {
-        return NameAnswer::Refused(Refusal::OutOfRange);
+    if !(160..=179).contains(&kind) {
+        return Err(Refusal::OutOfRange);
     }
-    if 179 < kind {
-        return NameAnswer::Refused(Refusal::OutOfRange);
-    }
-    let k = (kind - 160) as usize;
-    let start = STARTS[k] as usize;
-    let end = STARTS[k + 1] as usize - 1;
-    put_name(&NAMES[start..end], out)
+    put_name(name_of(kind).as_bytes(), out)
 }

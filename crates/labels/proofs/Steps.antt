@@ -10,13 +10,12 @@ use lib.ListN.{length, take, drop}
 use Rattle.laws.proofs.Tests.{bool_cases}
 use Rattle.answers.specs.declared.Refusal.{Refusal}
 use Rattle.answers.specs.declared.Refusal.TheVariants.{NoSuchSequence}
-use Rattle.answers.specs.declared.Checked.TheVariants as C
+use Rattle.std.specs.Prelude.{Ok, Err}
+use Rattle.std.specs.declared.ops.ControlFlow.TheVariants.{Break, Continue}
 use Rattle.elements.specs.declared.Span.{Span}
 use Rattle.headers.specs.Record.{check_record}
-use Rattle.deflines.specs.declared.TitleAnswer.TheVariants as T
-use Rattle.deflines.specs.declared.TitleSearch.TheVariants as A
 use Rattle.deflines.specs.Fields.{titles_of}
-use Rattle.deflines.specs.Numbered.{title_from}
+use Rattle.deflines.specs.Numbered.{item_from}
 use Rattle.deflines.specs.Calls.{title_given, title_of}
 use Rattle.deflines.proofs.Calls.{title_passed}
 use Rattle.deflines.proofs.Count.{title_found, title-left}
@@ -24,13 +23,13 @@ use Rattle.labels.specs.declared.Step.{Step}
 use Rattle.labels.specs.Walker.{place, step_of, step_then, walked}
 
 -- a step, by the title call's answer
-pub step-title : (header : List ℕ) (start end given : ℕ) (t : Span) → title_of header start end given ≡ T.Title t
-    → ◌≡◌ {A = Step} (record { answer = T.Title t; after = place start end (given + 1) }) (step_of header start end given)
+pub step-title : (header : List ℕ) (start end given : ℕ) (t : Span) → title_of header start end given ≡ Ok t
+    → ◌≡◌ {A = Step} (record { answer = Ok t; after = place start end (given + 1) }) (step_of header start end given)
 unfolding step_of
 step-title header start end given t e = rw e
 
-pub step-refused : (header : List ℕ) (start end given : ℕ) (r : Refusal) → title_of header start end given ≡ T.Refused r
-    → ◌≡◌ {A = Step} (record { answer = T.Refused r; after = place start end given }) (step_of header start end given)
+pub step-refused : (header : List ℕ) (start end given : ℕ) (r : Refusal) → title_of header start end given ≡ Err r
+    → ◌≡◌ {A = Step} (record { answer = Err r; after = place start end given }) (step_of header start end given)
 unfolding step_of
 step-refused header start end given r e = rw e
 
@@ -41,18 +40,18 @@ drop_past (t ∷ ts) zero h = absurd (omega arith)
 drop_past (t ∷ ts) (suc g) h = drop_past ts g (omega arith)
 
 -- a record that passed: its titles one after the other, then 10 from the same place
-module _ (header : List ℕ) (start end : ℕ) (passed : check_record header start end ≡ C.Passed) where
+module _ (header : List ℕ) (start end : ℕ) (passed : check_record header start end ≡ Ok tt) where
   abbrev titles : List Span
   titles = titles_of (take end header) start
 
-  gives : (g : ℕ) (t : Span) → title_from titles g ≡ A.Found t → title_of header start end g ≡ T.Title t
-  gives g t e = sym (title_passed header start end g (T.Title t) passed (sym (ap title_given e)))
+  gives : (g : ℕ) (t : Span) → item_from titles g ≡ Break t → title_of header start end g ≡ Ok t
+  gives g t e = sym (title_passed header start end g (Ok t) passed (sym (ap title_given e)))
 
-  refuses : (g j : ℕ) → title_from titles g ≡ A.Left j → title_of header start end g ≡ T.Refused NoSuchSequence
-  refuses g j e = sym (title_passed header start end g (T.Refused NoSuchSequence) passed (sym (ap title_given e)))
+  refuses : (g j : ℕ) → item_from titles g ≡ Continue j → title_of header start end g ≡ Err NoSuchSequence
+  refuses g j e = sym (title_passed header start end g (Err NoSuchSequence) passed (sym (ap title_given e)))
 
   -- where no title is left the step is 10, and the place stays
-  pub step-ends : (g : ℕ) → length titles ≤ g → step_of header start end g ≡ record { answer = T.Refused NoSuchSequence; after = place start end g }
+  pub step-ends : (g : ℕ) → length titles ≤ g → step_of header start end g ≡ record { answer = Err NoSuchSequence; after = place start end g }
   step-ends g h = let l = title-left titles g h in sym (step-refused header start end g NoSuchSequence (refuses g l.0 l.1))
 
   one-step : (n g : ℕ) (s : Step) → step_of header start end g ≡ s

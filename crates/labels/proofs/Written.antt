@@ -13,7 +13,7 @@ use Rattle.deflines.specs.Calls.{first_of}
 use Rattle.deflines.specs.Written.{first_written}
 use Rattle.deflines.proofs.Written.{first-is}
 use Rattle.volume.specs.declared.Index.{Index}
-use Rattle.volume.specs.declared.IndexAnswer.TheVariants as X
+use Rattle.std.specs.Prelude.{Ok}
 use Rattle.volume.specs.Index.{title_length, sequences, header_table, index_answer}
 use Rattle.volume.specs.Tables.{header_offset}
 use Rattle.labels.specs.Label.{record_label, offsets_label, label_of}
@@ -27,7 +27,7 @@ offsets_are header title low high a b c =
     rw (n, test_le low high b, test_le high (pos (length header)) c)
 
 module _ (index header : List ℕ) (number : ℕ) (short : length header ≤ 2147483647) (x : Index)
-    (fields : index_answer index ≡ X.Read x) (below : number < sequences index) where
+    (fields : index_answer index ≡ Ok x) (below : number < sequences index) where
   abbrev pub low : ℤ
   low = header_offset index number
 
@@ -36,7 +36,7 @@ module _ (index header : List ℕ) (number : ℕ) (short : length header ≤ 214
 
   -- 0 <= H[i] <= H[i+1] <= the header file's length, and a good record between them
   pub label_is : pos 0 ≤ℤ low → low ≤ℤ high → high ≤ℤ pos (length header) → (good : GoodRecord header (to_nat low) (to_nat high))
-      → label_of index header number ≡ record_label (title_length index) (first_written good)
+      → label_of index header number ≡ record_label (title_length index) (Ok (first_written good))
   label_is a b c good =
       sym (label_found index header number short x fields _ (header_table index) (title_length index) low high below refl refl refl refl refl)
       ∙ offsets_are header (title_length index) low high a b c

@@ -1,6 +1,8 @@
 // The arguments of the command line, as bytes: a file's name need not be text.
+use crate::file;
 use std::alloc::{AllocError, Global};
 use std::env::{Env, FillError};
+use std::io;
 
 // One more than the program takes, so that more are known.
 const MOST_ARGUMENTS: usize = 4;
@@ -8,21 +10,12 @@ const MOST_ARGUMENTS: usize = 4;
 // No name of a file has more bytes.
 const MOST_NAMED: usize = 4096;
 
-#[derive(Drop)]
-pub enum Argument {
-    Name(Vec<u8>),
-    // An argument of more than MOST_NAMED bytes.
-    TooLong,
-}
+// The bytes of an argument; an error where they are more than MOST_NAMED.
+pub type Argument = io::Result<Vec<u8>>;
 
-impl Argument {
-    // Whether the argument asks for help.
-    pub fn asks_help(&self) -> bool {
-        match self {
-            Argument::Name(name) => name.as_slice() == b"--help".as_slice(),
-            Argument::TooLong => false,
-        }
-    }
+// Whether an argument asks for help.
+pub fn asks_help(argument: &Argument) -> bool {
+    matches!(argument, Ok(name) if name.as_slice() == b"--help".as_slice())
 }
 
 // The argument of a number, if there is one.
@@ -31,9 +24,9 @@ fn read_one<R: Env>(rt: &R, alloc: Global, number: usize) -> Result<Option<Argum
     match rt.arg(number, name.as_mut_slice()) {
         Ok(n) => {
             name.truncate(n);
-            Ok(Some(Argument::Name(name)))
+            Ok(Some(Ok(name)))
         }
-        Err(FillError::TooLong) => Ok(Some(Argument::TooLong)),
+        Err(FillError::TooLong) => Ok(Some(Err(file::name_too_long()))),
         Err(FillError::NotPresent) => Ok(None),
     }
 }

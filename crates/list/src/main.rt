@@ -8,7 +8,7 @@ mod message;
 
 ghost use Rattle.std.specs.Prelude.{◌≤◌, IfOk, IfSome, length};
 
-use arguments::Argument;
+use arguments::{Argument, asks_help};
 use listing::LISTING_ROOM;
 use std::io;
 
@@ -21,14 +21,11 @@ then the number and the length of each sequence.
 fn load(rt: &HostRuntime, argument: &Argument) -> io::Result<Option<Vec<u8>>>
     ensures { IfOk result (λ loaded. IfSome loaded (λ v. length v.items ≤ 16385)) }
 {
-    let name = match argument {
-        Argument::Name(name) => name.as_slice(),
-        Argument::TooLong => {
-            message::tell(rt, b"argument", file::name_too_long())?;
-            return Ok(None);
-        }
+    let (name, read) = match argument {
+        Ok(name) => (name.as_slice(), file::read(rt, name.as_slice())),
+        Err(error) => (b"argument".as_slice(), Err(*error)),
     };
-    match file::read(rt, name) {
+    match read {
         Ok(bytes) => Ok(Some(bytes)),
         Err(error) => {
             message::tell(rt, name, error)?;
@@ -53,10 +50,7 @@ fn list(
     sequence: &Argument,
     header: &Argument,
 ) -> io::Result<()> {
-    let index = load(rt, index)?;
-    let sequence = load(rt, sequence)?;
-    let header = load(rt, header)?;
-    match (index, sequence, header) {
+    match (load(rt, index)?, load(rt, sequence)?, load(rt, header)?) {
         (Some(index), Some(sequence), Some(header)) => put_listing(
             rt,
             index.as_slice(),
@@ -70,7 +64,7 @@ fn list(
 fn main(rt: HostRuntime) -> io::Result<()> {
     let found = arguments::read(&rt, rt.alloc())?;
     match found.as_slice() {
-        [only] if only.asks_help() => rt.print(USAGE),
+        [only] if asks_help(only) => rt.print(USAGE),
         [index, sequence, header] => list(&rt, index, sequence, header),
         _ => rt.eprint(USAGE),
     }

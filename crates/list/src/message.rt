@@ -1,36 +1,32 @@
 // What is told on standard error.
-ghost use Rattle.std.specs.Prelude.{◌≡◌, ◌++◌, ◌<◌, OnOk, flat_map};
-ghost use Rattle.list.specs.Shown.{shown_byte, hex_digit};
+ghost use Rattle.std.specs.Prelude.{◌≡◌, ◌++◌, OnOk, flat_map};
+ghost use Rattle.list.specs.Shown.{is_plain, shown_byte};
 
 use std::alloc::{AllocError, Global};
 use std::io;
 use std::io::{Error, Write};
 
-// A hexadecimal digit.
-fn digit(n: u8) -> u8
-    requires { n < 16 }
-    ensures { result ≡ hex_digit n }
+// Whether a byte of a name is shown as it is: it is printable, and neither a quote nor a backslash.
+fn is_plain(b: u8) -> bool
+    ensures { result ≡ is_plain b }
 {
-    if n < 10 {
-        return b'0' + n;
-    }
-    b'a' + (n - 10)
+    32 <= b && b < 127 && b != b'"' && b != b'\\'
 }
 
-// Adds a byte of a name as it is shown: one that is not printable, a quote and a backslash are \xNN.
-fn put_shown(b: u8, shown: &mut Vec<u8>) -> Result<(), AllocError>
-    ensures { OnOk result (shown.new.items ≡ shown.old.items ++ shown_byte b) }
+// Adds a byte of a name as it is shown: the others are \xNN.
+fn put_shown(b: u8, shown: &mut String) -> Result<(), AllocError>
+    ensures { OnOk result (shown.new.bytes.items ≡ shown.old.bytes.items ++ shown_byte b) }
 {
-    if 32 <= b && b < 127 && b != b'"' && b != b'\\' {
-        shown.push(b)?;
-        return Ok(());
+    if is_plain(b) {
+        shown.push(char::from(b))
+    } else {
+        write!(shown, "\\x{b:02x}")
     }
-    shown.extend_from_slice(&[b'\\', b'x', digit(b / 16), digit(b % 16)])
 }
 
 // Adds a name as it is shown, so that no name can forge a line or reach the terminal.
-fn show(name: &[u8], shown: &mut Vec<u8>) -> Result<(), AllocError>
-    ensures { OnOk result (shown.new.items ≡ shown.old.items ++ flat_map shown_byte name.now) }
+fn show(name: &[u8], shown: &mut String) -> Result<(), AllocError>
+    ensures { OnOk result (shown.new.bytes.items ≡ shown.old.bytes.items ++ flat_map shown_byte name.now) }
 {
     for b in name {
         put_shown(*b, shown)?;
@@ -50,11 +46,11 @@ fn reason(alloc: Global, error: Error) -> Result<String, AllocError> {
 // Tells what failed, by its name, and why.
 pub fn tell(rt: &HostRuntime, name: &[u8], error: Error) -> io::Result<()> {
     let alloc = rt.alloc();
-    let mut line = Vec::new(alloc);
-    line.extend_from_slice(b"list: ")?;
+    let mut line = String::new(alloc);
+    line.push_str("list: ")?;
     show(name, &mut line)?;
-    line.extend_from_slice(b": ")?;
-    line.extend_from_slice(reason(alloc, error)?.as_bytes())?;
-    line.push(b'\n')?;
-    rt.stderr().write_all(line.as_slice())
+    line.push_str(": ")?;
+    line.push_str(reason(alloc, error)?.as_str())?;
+    line.push('\n')?;
+    rt.stderr().write_all(line.as_bytes())
 }

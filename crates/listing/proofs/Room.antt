@@ -13,8 +13,8 @@ use Rattle.laws.proofs.Passing.{passes_with}
 use Rattle.answers.specs.declared.Refusal.{Refusal}
 use Rattle.answers.specs.Numbers.{number_of}
 use Rattle.volume.specs.declared.VolumeRecord.{VolumeRecord}
-use Rattle.volume.specs.declared.VolumeAnswer.{VolumeAnswer}
-use Rattle.volume.specs.declared.VolumeAnswer.TheVariants as A
+use Rattle.std.specs.Prelude.{Result, Ok, Err}
+use Rattle.answers.proofs.Checks.{err-not_ok}
 use Rattle.volume.specs.Index.{sequences}
 use Rattle.volume.specs.Tables.{length_of_number}
 use Rattle.volume.specs.Volume.{volume_record, volume_answer}
@@ -74,17 +74,14 @@ module _ (index sequence header : List ℕ) where
   few h k =
       ⊎_elim (λ t. let e = h.dna_whole t in omega arith) (λ t. let e = h.protein_whole t in omega arith) h.type
 
-  no_refusal : (v : VolumeRecord) (r : Refusal) → A.Refused r ≡ A.Passed v → ⊥
-  no_refusal v r e = let z : ◌≡◌ {A = ℕ} 0 1 = cc in omega arith
-
-  listed_few : (v : VolumeRecord) → listed_answer index sequence header ≡ A.Passed v → v.sequences ≤ 2047
+  listed_few : (v : VolumeRecord) → listed_answer index sequence header ≡ Ok v → v.sequences ≤ 2047
   unfolding listed_answer volume_record
   listed_few v e =
-      let p = passes_with A.Refused (volume_answer index sequence header) (A.Passed v) (no_refusal v) (listing_size_rules index sequence header) e in
+      let p = passes_with Err (volume_answer index sequence header) (Ok v) (λ r. err-not_ok r v) (listing_size_rules index sequence header) e in
       let q = passed_rules index sequence header v p.1 in
       rw q.1 (few q.0.fields (leb-true _ _ p.0.0))
 
-  pub volume_fits : (v : VolumeRecord) → listed_answer index sequence header ≡ A.Passed v → length (volume_text index sequence v) ≤ listing_room
+  pub volume_fits : (v : VolumeRecord) → listed_answer index sequence header ≡ Ok v → length (volume_text index sequence v) ≤ listing_room
   volume_fits v e =
       omega (arith, volume_size index sequence v, listed_few v e, head_length v, lengths_length (length_of_number index sequence) v.sequences)
 
@@ -93,6 +90,6 @@ module _ (index sequence header : List ℕ) where
   unfolding listing_text
   listing_fits = go (listed_answer index sequence header) refl
     where
-      go : (a : VolumeAnswer) → listed_answer index sequence header ≡ a → length (answer_text index sequence a) ≤ listing_room
-      go (A.Passed v) e = volume_fits v e
-      go (A.Refused r) e = refused-fits (number_of r)
+      go : (a : Result VolumeRecord Refusal) → listed_answer index sequence header ≡ a → length (answer_text index sequence a) ≤ listing_room
+      go (Ok v) e = volume_fits v e
+      go (Err r) e = refused-fits (number_of r)

@@ -12,13 +12,16 @@ use lib.Dec.{ltb}
 use lib.ListN.{length, take, drop, set, length-append}
 use lib.Seq.{set_split, paste-zero}
 use Rattle.laws.specs.Writing.{written_at}
-use Rattle.laws.proofs.Writing.{written_twice, paste_whole}
+use Rattle.laws.proofs.Writing.{written_twice, length_written, paste_whole}
 use Rattle.volume.specs.declared.VolumeRecord.{VolumeRecord}
 use Rattle.volume.specs.Tables.{length_of_number}
 use Rattle.listing.specs.Listing.{space, line_feed, digit_of, last_digits, decimal, number_then, type_text}
 use Rattle.listing.specs.Listing.{head_text, length_text, lengths_text, volume_text, listing_text, Put}
 
 -- ---- texts
+
+pub append_length : (xs ys : List ℕ) → length (xs ++ ys) ≡ length xs + length ys
+append_length xs ys = length-append xs ys
 
 -- nothing put yet
 pub put_none : (old : List ℕ) (at : ℕ) → Put old at [] old at
@@ -32,6 +35,10 @@ put_one old at b h =
       place = refl;
     }
 
+-- a text that has room leaves the range as long as it was
+pub put_size : {old text new : List ℕ} {at next : ℕ} → Put old at text new next → at + length text ≤ length old → length new ≡ length old
+put_size {old} {text} {new} {at} {next} p h = ap length p.holds ∙ length_written at text old h
+
 -- a text behind a text
 pub put_then : {old xs mid ys new : List ℕ} {at p next : ℕ} → at + length (xs ++ ys) ≤ length old → Put old at xs mid p → Put mid p ys new next
     → Put old at (xs ++ ys) new next
@@ -41,11 +48,6 @@ put_then {old} {xs} {mid} {ys} {new} {at} {p} {next} h a b =
       holds = b.holds ∙ rw (a.place, a.holds) (written_twice at xs ys old (omega arith));
       place = omega (arith, a.place, b.place);
     }
-
--- the same from the start on
-pub put_first : {old xs mid ys new : List ℕ} {p next : ℕ} → length (xs ++ ys) ≤ length old → Put old 0 xs mid p → Put mid p ys new next
-    → Put old 0 (xs ++ ys) new next
-put_first h a b = put_then (omega arith) a b
 
 -- ---- digits
 

@@ -1,14 +1,12 @@
 -- The listing of a volume: document 01's whole text, as bytes of ASCII.
 -- Assumes nothing.
-use Rattle.std.specs.Prelude.{◌≡◌, cond, List, [], ◌∷◌, ◌++◌, ℕ, zero, suc, ◌+◌, ◌/◌, ◌%◌, eqb, leb, ltb, length}
+use Rattle.std.specs.Prelude.{◌≡◌, cond, List, [], ◌∷◌, ◌++◌, ℕ, zero, suc, ◌+◌, ◌/◌, ◌%◌, eqb, leb, ltb, length, Result, Ok, Err}
 use Rattle.laws.specs.Rules.{Rule, ask, verdict}
 use Rattle.laws.specs.Writing.{written_at}
 use Rattle.answers.specs.Numbers.{number_of}
 use Rattle.answers.specs.declared.Refusal.{Refusal}
 use Rattle.answers.specs.declared.Refusal.TheVariants.{TooLarge}
 use Rattle.volume.specs.declared.VolumeRecord.{VolumeRecord}
-use Rattle.volume.specs.declared.VolumeAnswer.{VolumeAnswer}
-use Rattle.volume.specs.declared.VolumeAnswer.TheVariants as A
 use Rattle.volume.specs.Tables.{length_of_number}
 use Rattle.volume.specs.Volume.{volume_answer}
 
@@ -84,16 +82,16 @@ listing_size_rules index sequence header =
     ∷ []
 
 -- The answer of the volume's check, the sizes tested first.
-unfoldable pub listed_answer : List ℕ → List ℕ → List ℕ → VolumeAnswer
-listed_answer index sequence header = verdict A.Refused (volume_answer index sequence header) (listing_size_rules index sequence header)
+unfoldable pub listed_answer : List ℕ → List ℕ → List ℕ → Result VolumeRecord Refusal
+listed_answer index sequence header = verdict Err (volume_answer index sequence header) (listing_size_rules index sequence header)
 
 -- The text of a volume that passed: the first line, and each number with its length.
 unfoldable pub volume_text : List ℕ → List ℕ → VolumeRecord → List ℕ
 volume_text index sequence v = head_text v ++ lengths_text (length_of_number index sequence) v.sequences
 
-abbrev pub answer_text : List ℕ → List ℕ → VolumeAnswer → List ℕ
-answer_text index sequence (A.Passed v) = volume_text index sequence v
-answer_text index sequence (A.Refused r) = refused_text (number_of r)
+abbrev pub answer_text : List ℕ → List ℕ → Result VolumeRecord Refusal → List ℕ
+answer_text index sequence (Ok v) = volume_text index sequence v
+answer_text index sequence (Err r) = refused_text (number_of r)
 
 -- The whole text.
 unfoldable pub listing_text : List ℕ → List ℕ → List ℕ → List ℕ

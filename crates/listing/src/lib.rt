@@ -8,34 +8,13 @@ ghost use Rattle.listing.specs.Listing.{digit_of, decimal, number_then, type_tex
 ghost use Rattle.listing.specs.Listing.{lengths_text, refused_text, listed_answer, volume_text, listing_text, Put};
 
 use answers::Refusal;
-use volume::{VolumeAnswer, VolumeRecord};
+use volume::VolumeRecord;
 
 // The most bytes of a file that is listed.
 pub const MOST_LISTED: usize = 16384;
 
 // The room of a listing: every text fits in it.
 pub const LISTING_ROOM: usize = 131072;
-
-// Puts a byte at a place; the place behind it, as all that follow.
-fn put_byte(out: &mut [u8], at: usize, b: u8) -> usize
-    requires { at < length out.old }
-    ensures { Put out.old at (b ∷ []) out.new result }
-{
-    out[at] = b;
-    at + 1
-}
-
-fn put_text(out: &mut [u8], at: usize, text: &[u8]) -> usize
-    requires { at + length text.now ≤ length out.old }
-    ensures { Put out.old at text.now out.new result }
-{
-    let mut k = 0;
-    while k < text.len() {
-        out[at + k] = text[k];
-        k += 1;
-    }
-    at + k
-}
 
 // The digit of a number below ten.
 fn digit(n: usize) -> u8
@@ -45,102 +24,139 @@ fn digit(n: usize) -> u8
     b'0' + n as u8
 }
 
-// Puts a number in base ten: its last digit behind those of a tenth of it.
-fn put_decimal(out: &mut [u8], at: usize, n: usize) -> usize
-    requires { at + length (decimal n) ≤ length out.old }
-    ensures { Put out.old at (decimal n) out.new result }
-{
-    if n < 10 {
-        return put_byte(out, at, digit(n));
+// A text in a lent array, and the place behind what is put so far.
+#[derive(Drop)]
+struct Text<'a> {
+    out: &'a mut [u8],
+    at: usize,
+}
+
+impl Text<'_> {
+    // Puts a byte.
+    fn byte(&mut self, b: u8)
+        requires { self.old.at + length (b ∷ []) ≤ length self.old.out.now }
+        ensures same_reference { self.new.out.ghost_name ≡ self.old.out.ghost_name }
+        ensures put { Put self.old.out.now self.old.at (b ∷ []) self.new.out.now self.new.at }
+    {
+        self.out[self.at] = b;
+        self.at += 1;
     }
-    let next = put_decimal(out, at, n / 10);
-    put_byte(out, next, digit(n % 10))
-}
 
-// Puts a number and the byte after it.
-fn put_number(out: &mut [u8], at: usize, n: usize, after: u8) -> usize
-    requires { at + length (number_then n after) ≤ length out.old }
-    ensures { Put out.old at (number_then n after) out.new result }
-{
-    let next = put_decimal(out, at, n);
-    put_byte(out, next, after)
-}
-
-fn put_type(out: &mut [u8], kind: usize) -> usize
-    requires { length (type_text kind) ≤ length out.old }
-    ensures { Put out.old 0 (type_text kind) out.new result }
-{
-    if kind == 1 {
-        return put_text(out, 0, b"protein ");
+    // Puts a word.
+    fn word(&mut self, word: &[u8])
+        requires { self.old.at + length word.now ≤ length self.old.out.now }
+        ensures same_reference { self.new.out.ghost_name ≡ self.old.out.ghost_name }
+        ensures put { Put self.old.out.now self.old.at word.now self.new.out.now self.new.at }
+    {
+        let end = self.at + word.len();
+        self.out[self.at..end].copy_from_slice(word);
+        self.at = end;
     }
-    put_text(out, 0, b"dna ")
-}
 
-// Puts the first line.
-fn put_head(out: &mut [u8], v: VolumeRecord) -> usize
-    requires { length (head_text v) ≤ length out.old }
-    ensures { Put out.old 0 (head_text v) out.new result }
-{
-    let after_type = put_type(out, v.kind);
-    let after_sequences = put_number(out, after_type, v.sequences, b' ');
-    let after_residues = put_number(out, after_sequences, v.residues, b' ');
-    put_number(out, after_residues, v.longest, b'\n')
-}
-
-// Puts the line of a sequence.
-fn put_length(out: &mut [u8], at: usize, number: usize, len: usize) -> usize
-    requires { at + length (length_text number len) ≤ length out.old }
-    ensures { Put out.old at (length_text number len) out.new result }
-{
-    let next = put_number(out, at, number, b' ');
-    put_number(out, next, len, b'\n')
-}
-
-// Puts the lines of n sequences.
-fn put_lengths(out: &mut [u8], at: usize, index: &[u8], sequence: &[u8], n: usize) -> usize
-    requires { at + length (lengths_text (length_of_number index.now sequence.now) n) ≤ length out.old }
-    ensures { Put out.old at (lengths_text (length_of_number index.now sequence.now) n) out.new result }
-{
-    let mut next = at;
-    let mut i = 0;
-    while i < n {
-        next = put_length(out, next, i, volume::sequence_length(index, sequence, i));
-        i += 1;
+    // Puts a number in base ten: its last digit behind those of a tenth of it.
+    fn decimal(&mut self, n: usize)
+        requires { self.old.at + length (decimal n) ≤ length self.old.out.now }
+        ensures same_reference { self.new.out.ghost_name ≡ self.old.out.ghost_name }
+        ensures put { Put self.old.out.now self.old.at (decimal n) self.new.out.now self.new.at }
+    {
+        if n < 10 {
+            self.byte(digit(n));
+        } else {
+            self.decimal(n / 10);
+            self.byte(digit(n % 10));
+        }
     }
-    next
-}
 
-// Puts the text of a volume that passed.
-fn put_volume(out: &mut [u8], index: &[u8], sequence: &[u8], v: VolumeRecord) -> usize
-    requires { length (volume_text index.now sequence.now v) ≤ length out.old }
-    ensures { Put out.old 0 (volume_text index.now sequence.now v) out.new result }
-{
-    let n = v.sequences;
-    let next = put_head(out, v);
-    put_lengths(out, next, index, sequence, n)
-}
+    // Puts a number and the byte after it.
+    #[tactic(auto, using(crate::proofs::Texts::put_then, crate::proofs::Texts::append_length), unfolding(crate::specs::Listing::number_then))]
+    fn number(&mut self, n: usize, after: u8)
+        requires { self.old.at + length (number_then n after) ≤ length self.old.out.now }
+        ensures same_reference { self.new.out.ghost_name ≡ self.old.out.ghost_name }
+        ensures put { Put self.old.out.now self.old.at (number_then n after) self.new.out.now self.new.at }
+    {
+        self.decimal(n);
+        self.byte(after);
+    }
 
-// Puts the line of a refusal.
-fn put_refused(out: &mut [u8], number: usize) -> usize
-    requires { length (refused_text number) ≤ length out.old }
-    ensures { Put out.old 0 (refused_text number) out.new result }
-{
-    let next = put_text(out, 0, b"refused ");
-    put_number(out, next, number, b'\n')
+    // Puts the type by its name.
+    #[tactic(auto, unfolding(crate::specs::Listing::type_text))]
+    fn kind(&mut self, kind: usize)
+        requires { self.old.at + length (type_text kind) ≤ length self.old.out.now }
+        ensures same_reference { self.new.out.ghost_name ≡ self.old.out.ghost_name }
+        ensures put { Put self.old.out.now self.old.at (type_text kind) self.new.out.now self.new.at }
+    {
+        if kind == 1 {
+            self.word(b"protein ");
+        } else {
+            self.word(b"dna ");
+        }
+    }
+
+    // Puts the first line.
+    #[tactic(auto, using(crate::proofs::Texts::put_then, crate::proofs::Texts::append_length), unfolding(crate::specs::Listing::head_text))]
+    fn head(&mut self, v: VolumeRecord)
+        requires { self.old.at + length (head_text v) ≤ length self.old.out.now }
+        ensures same_reference { self.new.out.ghost_name ≡ self.old.out.ghost_name }
+        ensures put { Put self.old.out.now self.old.at (head_text v) self.new.out.now self.new.at }
+    {
+        self.kind(v.kind);
+        self.number(v.sequences, b' ');
+        self.number(v.residues, b' ');
+        self.number(v.longest, b'\n');
+    }
+
+    // Puts the line of a sequence.
+    #[tactic(auto, using(crate::proofs::Texts::put_then, crate::proofs::Texts::append_length), unfolding(crate::specs::Listing::length_text))]
+    fn sequence(&mut self, number: usize, len: usize)
+        requires { self.old.at + length (length_text number len) ≤ length self.old.out.now }
+        ensures same_reference { self.new.out.ghost_name ≡ self.old.out.ghost_name }
+        ensures put { Put self.old.out.now self.old.at (length_text number len) self.new.out.now self.new.at }
+    {
+        self.number(number, b' ');
+        self.number(len, b'\n');
+    }
+
+    // Puts the lines of n sequences.
+    fn sequences(&mut self, index: &[u8], sequence: &[u8], n: usize)
+        requires { self.old.at + length (lengths_text (length_of_number index.now sequence.now) n) ≤ length self.old.out.now }
+        ensures same_reference { self.new.out.ghost_name ≡ self.old.out.ghost_name }
+        ensures put { Put self.old.out.now self.old.at (lengths_text (length_of_number index.now sequence.now) n) self.new.out.now self.new.at }
+    {
+        for i in 0..n {
+            self.sequence(i, volume::sequence_length(index, sequence, i));
+        }
+    }
+
+    // Puts the text of a volume that passed.
+    #[tactic(auto, using(crate::proofs::Texts::put_then, crate::proofs::Texts::append_length), unfolding(crate::specs::Listing::volume_text))]
+    fn volume(&mut self, index: &[u8], sequence: &[u8], v: VolumeRecord)
+        requires { self.old.at + length (volume_text index.now sequence.now v) ≤ length self.old.out.now }
+        ensures same_reference { self.new.out.ghost_name ≡ self.old.out.ghost_name }
+        ensures put { Put self.old.out.now self.old.at (volume_text index.now sequence.now v) self.new.out.now self.new.at }
+    {
+        self.head(v);
+        self.sequences(index, sequence, v.sequences);
+    }
+
+    // Puts the line of a refusal.
+    #[tactic(auto, using(crate::proofs::Texts::put_then, crate::proofs::Texts::append_length), unfolding(crate::specs::Listing::refused_text))]
+    fn refused(&mut self, number: usize)
+        requires { self.old.at + length (refused_text number) ≤ length self.old.out.now }
+        ensures same_reference { self.new.out.ghost_name ≡ self.old.out.ghost_name }
+        ensures put { Put self.old.out.now self.old.at (refused_text number) self.new.out.now self.new.at }
+    {
+        self.word(b"refused ");
+        self.number(number, b'\n');
+    }
 }
 
 // The check of a volume that is listed; larger files are 22.
-fn check_listed(index: &[u8], sequence: &[u8], header: &[u8]) -> VolumeAnswer
+#[tactic(auto, unfolding(crate::specs::Listing::listed_answer))]
+fn check_listed(index: &[u8], sequence: &[u8], header: &[u8]) -> Result<VolumeRecord, Refusal>
     ensures { result ≡ listed_answer index.now sequence.now header.now }
 {
-    if MOST_LISTED < index.len() {
-        return VolumeAnswer::Refused(Refusal::TooLarge);
-    }
-    if MOST_LISTED < sequence.len() {
-        return VolumeAnswer::Refused(Refusal::TooLarge);
-    }
-    if MOST_LISTED < header.len() {
-        return VolumeAnswer::Refused(Refusal::TooLarge);
+    if MOST_LISTED < index.len() || MOST_LISTED < sequence.len() || MOST_LISTED < header.len() {
+        return Err(Refusal::TooLarge);
     }
     volume::check_volume(index, sequence, header)
 }
@@ -155,8 +171,10 @@ pub fn write_listing(
     ensures len { result ≡ length (listing_text index.now sequence.now header.now) }
     ensures out { out.new ≡ written_at 0 (listing_text index.now sequence.now header.now) out.old }
 {
+    let mut text = Text { out, at: 0 };
     match check_listed(index, sequence, header) {
-        VolumeAnswer::Refused(r) => put_refused(out, answers::number(r) as usize),
-        VolumeAnswer::Passed(v) => put_volume(out, index, sequence, v),
+        Ok(v) => text.volume(index, sequence, v),
+        Err(r) => text.refused(u32::from(r) as usize),
     }
+    text.at
 }

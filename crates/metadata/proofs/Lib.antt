@@ -1,5 +1,4 @@
 pub mod Closings
 pub mod Descriptions
-pub mod Taxonomy
 pub mod Rules
 pub mod Moved

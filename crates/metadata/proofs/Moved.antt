@@ -9,10 +9,11 @@ use lib.ListN.{get_or}
 use Rattle.fields.specs.declared.Order.{Order}
 use Rattle.fields.specs.Number.{signed_at}
 use Rattle.metadata.specs.declared.Texts.{Texts}
-use Rattle.metadata.specs.declared.Texts.TheVariants.{Lengths, Bad}
+use Rattle.std.specs.Prelude.{Option, None, Some}
+use Rattle.std.proofs.lemmas.Option.{none-some}
 use Rattle.metadata.specs.Record.{texts_in}
 use Rattle.metadata.specs.Rules.{Text, MetadataRule}
-use Rattle.metadata.proofs.Rules.{not-bad, texts_rule, rule_texts}
+use Rattle.metadata.proofs.Rules.{texts_rule, rule_texts}
 
 module _ (o o' : Order) (s s' : List ℕ) (from to : ℕ) (same : (k : ℕ) → from ≤ k → k + 4 < to → get_or s k 0 ≡ get_or s' k 0)
     (ids : from + 4 ≤ to → signed_at o 4 s (to - 4) ≡ signed_at o' 4 s' (to - 4)) where
@@ -36,15 +37,17 @@ module _ (o o' : Order) (s s' : List ℕ) (from to : ℕ) (same : (k : ℕ) → 
       }
 
 -- What holds of both is read of both.
-texts_by : (x y : Texts) → ((n a d : ℕ) → x ≡ Lengths n a d → y ≡ Lengths n a d) → ((n a d : ℕ) → y ≡ Lengths n a d → x ≡ Lengths n a d) → x ≡ y
-texts_by (Lengths n a d) y f g = sym (f n a d refl)
-texts_by Bad (Lengths n a d) f g = absurd (not-bad (g n a d refl))
-texts_by Bad Bad f g = refl
+texts_by : (x y : Option Texts) → ((t : Texts) → x ≡ Some t → y ≡ Some t) → ((t : Texts) → y ≡ Some t → x ≡ Some t) → x ≡ y
+texts_by (Some t) y f g = sym (f t refl)
+texts_by None (Some t) f g = absurd (none-some t (g t refl))
+texts_by None None f g = refl
 
 pub texts_moved : (o o' : Order) (s s' : List ℕ) (from to : ℕ) → ((k : ℕ) → from ≤ k → k + 4 < to → get_or s k 0 ≡ get_or s' k 0)
     → (from + 4 ≤ to → signed_at o 4 s (to - 4) ≡ signed_at o' 4 s' (to - 4)) → texts_in o s from to ≡ texts_in o' s' from to
 texts_moved o o' s s' from to same ids =
     texts_by (texts_in o s from to) (texts_in o' s' from to)
-    (λ n a d e. rule_texts o' s' from to n a d (rule_moved o o' s s' from to same ids n a d (texts_rule o s from to n a d e)))
-    (λ n a d e. rule_texts o s from to n a d
-    (rule_moved o' o s' s from to (λ k i j. sym (same k i j)) (λ h. sym (ids h)) n a d (texts_rule o' s' from to n a d e)))
+    (λ t e. rule_texts o' s' from to t.name t.accession t.description
+    (rule_moved o o' s s' from to same ids t.name t.accession t.description (texts_rule o s from to t.name t.accession t.description e)))
+    (λ t e. rule_texts o s from to t.name t.accession t.description
+    (rule_moved o' o s' s from to (λ k i j. sym (same k i j)) (λ h. sym (ids h)) t.name t.accession t.description
+    (texts_rule o' s' from to t.name t.accession t.description e)))

@@ -1,7 +1,7 @@
 -- Bytes are read as a metadata record exactly where they are one as document 01 words it. Assumes nothing.
 use mathlib.Core.Path.{◌≡◌, refl, sym, ap, ◌∙◌}
 use mathlib.Core.Bool.{Bool, true, false, not, cond, ◌&&◌}
-use mathlib.Core.Logic.{⊎_elim, ◌⊎◌, inl, inr}
+use mathlib.Core.Logic.{⊎_elim, inl, inr}
 use mathlib.Core.List.{List}
 use Prim.Native.Nat.{ℕ, zero, suc, ◌+◌, ◌-◌, ◌≤◌, ◌<◌}
 use native.Mathlib.Omega.{arith}
@@ -14,12 +14,12 @@ use borrow.Author.Tests.{eq-eqb, ne_eqb, eqb-true, eqb-false, le-leb, leb-true, 
 use Rattle.fields.specs.declared.Order.{Order}
 use Rattle.fields.specs.Number.{signed_at}
 use Rattle.laws.proofs.Tests.{never, bool_cases, both_pass, cond_passed, cond_failed}
-use Rattle.metadata.specs.declared.Closing.{Closing}
-use Rattle.metadata.specs.declared.Closing.TheVariants.{At, Open}
-use Rattle.metadata.specs.declared.Texts.TheVariants.{Lengths, Bad}
+use Rattle.std.specs.Prelude.{Option, None, Some}
+use Rattle.std.proofs.lemmas.Option.{none-some, cond_some}
+use Rattle.metadata.specs.declared.Texts.{Texts}
 use Rattle.metadata.specs.Record.{text_byte, closing, is_taxonomy, behind_description, behind_accession, behind_name, texts_in}
 use Rattle.metadata.specs.Rules.{TextByte, Text, Taxonomy, MetadataRule}
-use Rattle.metadata.proofs.Closings.{not_open, within}
+use Rattle.metadata.proofs.Closings.{within}
 
 -- ---- bytes of a text
 
@@ -43,8 +43,8 @@ no_nul false b h = h.0
 -- ---- a closed text
 
 closed_by : (w : Bool) (s : List ℕ) (n p q : ℕ) (b c : Bool) → eqb (get_or s p 0) 0 ≡ b → text_byte w (get_or s p 0) ≡ c
-    → (closing w s n (suc p) ≡ At q → Text w s (suc p) q)
-    → cond b (At p) (cond c (closing w s n (suc p)) Open) ≡ At q → Text w s p q
+    → (closing w s n (suc p) ≡ Some q → Text w s (suc p) q)
+    → cond b (Some p) (cond c (closing w s n (suc p)) None) ≡ Some q → Text w s p q
 closed_by w s n p q true c i j f h =
     let e : p ≡ q = cc in
     record { bytes = λ k l m. absurd (let z : ⊥ = omega arith in z); closed = rw (← e) (eqb-true _ _ i) }
@@ -54,23 +54,23 @@ closed_by w s n p q false true i j f h =
       bytes = λ k l m. ⊎_elim (λ e. rw (← e) (byte_rule w (get_or s p 0) (eqb-false (get_or s p 0) 0 i) j)) (λ g. r.bytes k g m) (eq-or-lt_of_le l);
       closed = r.closed;
     }
-closed_by w s n p q false false i j f h = not_open h
+closed_by w s n p q false false i j f h = absurd (none-some _ h)
 
-pub closed-text : (w : Bool) (s : List ℕ) (n p q : ℕ) → closing w s n p ≡ At q → Text w s p q
-closed-text w s zero p q h = not_open h
+pub closed-text : (w : Bool) (s : List ℕ) (n p q : ℕ) → closing w s n p ≡ Some q → Text w s p q
+closed-text w s zero p q h = absurd (none-some _ h)
 closed-text w s (suc n) p q h = closed_by w s n p q (eqb (get_or s p 0) 0) (text_byte w (get_or s p 0)) refl refl (closed-text w s n (suc p) q) h
 
-text-left : (w : Bool) (s : List ℕ) (n p q : ℕ) → p ≤ q → q < p + n → Text w s p q → closing w s n p ≡ At q
+text-left : (w : Bool) (s : List ℕ) (n p q : ℕ) → p ≤ q → q < p + n → Text w s p q → closing w s n p ≡ Some q
 text-left w s zero p q a b r = absurd (let z : ⊥ = omega arith in z)
 text-left w s (suc n) p q a b r =
-    ⊎_elim (λ e. let z : get_or s p 0 ≡ 0 = rw e r.closed in rw (eq-eqb (get_or s p 0) 0 z) (ap At e))
+    ⊎_elim (λ e. let z : get_or s p 0 ≡ 0 = rw e r.closed in rw (eq-eqb (get_or s p 0) 0 z) (ap Some e))
     (λ l.
     let t = r.bytes p (omega arith) l in
     rw (ne_eqb (get_or s p 0) 0 (no_nul w (get_or s p 0) t), rule_byte w (get_or s p 0) t)
     (text-left w s n (suc p) q l (omega arith) (record { bytes = λ k i j. r.bytes k (omega arith) j; closed = r.closed })))
     (eq-or-lt_of_le a)
 
-pub text-closed : (w : Bool) (s : List ℕ) (to p q : ℕ) → p ≤ q → q < to → Text w s p q → closing w s (to - p) p ≡ At q
+pub text-closed : (w : Bool) (s : List ℕ) (to p q : ℕ) → p ≤ q → q < to → Text w s p q → closing w s (to - p) p ≡ Some q
 text-closed w s to p q a b r = text-left w s (to - p) p q a (omega arith) r
 
 -- ---- the taxonomy id
@@ -94,31 +94,27 @@ rule_id z h = ⊎_elim (id_unset z) (id_set z) h
 
 -- ---- the record
 
-pub not-bad : {n a d : ℕ} → Bad ≡ Lengths n a d → ⊥
-not-bad h = let z : ◌≡◌ {A = ℕ} 0 1 = cc in omega arith
-
 module _ (order : Order) (s : List ℕ) (from to n a d : ℕ) where
-  description-read : (x y : ℕ) (m : Closing) → behind_description order s from to x y m ≡ Lengths n a d
-      → (z : ℕ) × (m ≡ At z) × (z + 5 ≡ to) × (is_taxonomy (signed_at order 4 s (z + 1)) ≡ true) × (x - from ≡ n) × (y - (x + 1) ≡ a) × (z - (y + 1) ≡ d)
-  description-read x y Open h = absurd (not-bad h)
-  description-read x y (At z) h =
-      let p = cond_passed (eqb (z + 5) to) not-bad h in
-      let q = cond_passed (is_taxonomy (signed_at order 4 s (z + 1))) not-bad p.1 in
-      let r = q.1 in
-      (z, refl, eqb-true (z + 5) to p.0, q.0, (cc), (cc), (cc))
+  description-read : (x y : ℕ) (m : Option ℕ) → behind_description order s from to x y m ≡ Some (record { name = n; accession = a; description = d })
+      → (z : ℕ) × (m ≡ Some z) × (z + 5 ≡ to) × (is_taxonomy (signed_at order 4 s (z + 1)) ≡ true) × (x - from ≡ n) × (y - (x + 1) ≡ a) × (z - (y + 1) ≡ d)
+  description-read x y None h = absurd (none-some _ h)
+  description-read x y (Some z) h =
+      let p = cond_passed (eqb (z + 5) to) (none-some _) h in
+      let q = cond_some (is_taxonomy (signed_at order 4 s (z + 1))) _ _ p.1 in
+      (z, refl, eqb-true (z + 5) to p.0, q.0, ap (λ (t : Texts). t.name) q.1, ap (λ (t : Texts). t.accession) q.1, ap (λ (t : Texts). t.description) q.1)
 
-  accession-read : (x : ℕ) (m : Closing) → behind_accession order s from to x m ≡ Lengths n a d
-      → (y : ℕ) × (m ≡ At y) × (behind_description order s from to x y (closing false s (to - (y + 1)) (y + 1)) ≡ Lengths n a d)
-  accession-read x Open h = absurd (not-bad h)
-  accession-read x (At y) h = (y, refl, h)
+  accession-read : (x : ℕ) (m : Option ℕ) → behind_accession order s from to x m ≡ Some (record { name = n; accession = a; description = d })
+      → (y : ℕ) × (m ≡ Some y) × (behind_description order s from to x y (closing false s (to - (y + 1)) (y + 1)) ≡ Some (record { name = n; accession = a; description = d }))
+  accession-read x None h = absurd (none-some _ h)
+  accession-read x (Some y) h = (y, refl, h)
 
-  name-read : (m : Closing) → behind_name order s from to m ≡ Lengths n a d
-      → (x : ℕ) × (m ≡ At x) × (x ≡ from → ⊥) × (behind_accession order s from to x (closing true s (to - (x + 1)) (x + 1)) ≡ Lengths n a d)
-  name-read Open h = absurd (not-bad h)
-  name-read (At x) h = let p = cond_failed (eqb x from) not-bad h in (x, refl, eqb-false x from p.0, p.1)
+  name-read : (m : Option ℕ) → behind_name order s from to m ≡ Some (record { name = n; accession = a; description = d })
+      → (x : ℕ) × (m ≡ Some x) × (x ≡ from → ⊥) × (behind_accession order s from to x (closing true s (to - (x + 1)) (x + 1)) ≡ Some (record { name = n; accession = a; description = d }))
+  name-read None h = absurd (none-some _ h)
+  name-read (Some x) h = let p = cond_failed (eqb x from) (none-some _) h in (x, refl, eqb-false x from p.0, p.1)
 
-  rule_at : (x y z : ℕ) → closing true s (to - from) from ≡ At x → (x ≡ from → ⊥)
-      → closing true s (to - (x + 1)) (x + 1) ≡ At y → closing false s (to - (y + 1)) (y + 1) ≡ At z
+  rule_at : (x y z : ℕ) → closing true s (to - from) from ≡ Some x → (x ≡ from → ⊥)
+      → closing true s (to - (x + 1)) (x + 1) ≡ Some y → closing false s (to - (y + 1)) (y + 1) ≡ Some z
       → z + 5 ≡ to → is_taxonomy (signed_at order 4 s (z + 1)) ≡ true → x - from ≡ n → y - (x + 1) ≡ a → z - (y + 1) ≡ d
       → MetadataRule order s from to n a d
   rule_at x y z cx ne cy cz e0 t e1 e2 e3 =
@@ -142,7 +138,7 @@ module _ (order : Order) (s : List ℕ) (from to n a d : ℕ) where
       positive (suc k) f = omega arith
 
   -- What is read as a metadata record with texts of these lengths is one ..
-  pub texts_rule : texts_in order s from to ≡ Lengths n a d → MetadataRule order s from to n a d
+  pub texts_rule : texts_in order s from to ≡ Some (record { name = n; accession = a; description = d }) → MetadataRule order s from to n a d
   unfolding texts_in
   texts_rule h =
       let p = name-read (closing true s (to - from) from) h in
@@ -151,7 +147,7 @@ module _ (order : Order) (s : List ℕ) (from to n a d : ℕ) where
       rule_at p.0 q.0 r.0 p.1 p.2 q.1 r.1 r.2 r.3 r.4 r.5 r.6
 
   -- .. and a metadata record with texts of these lengths is read as one.
-  pub rule_texts : MetadataRule order s from to n a d → texts_in order s from to ≡ Lengths n a d
+  pub rule_texts : MetadataRule order s from to n a d → texts_in order s from to ≡ Some (record { name = n; accession = a; description = d })
   unfolding texts_in
   rule_texts r =
       let l = r.named in

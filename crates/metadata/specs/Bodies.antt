@@ -1,14 +1,11 @@
 -- A metadata body: records one behind another from its first byte on, and nothing more (request 2026-09).
 -- Assumes nothing.
-use Rattle.std.specs.Prelude.{Bool, cond, ◌&&◌, List, [], ◌∷◌, ℕ, zero, suc, ◌+◌, ◌-◌, eqb, leb, ltb, length, get_or}
+use Rattle.std.specs.Prelude.{Bool, cond, ◌&&◌, List, [], ◌∷◌, ℕ, zero, suc, ◌+◌, ◌-◌, eqb, leb, ltb, length, get_or, Option, Some, None}
 use Rattle.laws.specs.Places.{every, largest_to}
 use Rattle.fields.specs.declared.Order.{Order}
 use Rattle.answers.specs.Numbers.{number_of}
 use Rattle.answers.specs.declared.Refusal.TheVariants.{BadMetadata}
 use Rattle.metadata.specs.declared.Texts.{Texts}
-use Rattle.metadata.specs.declared.Texts.TheVariants as T
-use Rattle.metadata.specs.declared.BodyAnswer.{BodyAnswer}
-use Rattle.metadata.specs.declared.BodyAnswer.TheVariants.{Longest, Bad}
 use Rattle.metadata.specs.Record.{texts_in, is_good, name_length, accession_length, description_length}
 
 -- The place of the first NUL from a place on, with n bytes left; past the file's end every byte is NUL.
@@ -30,10 +27,10 @@ record_start file (suc k) = record_end file (record_start file k)
 
 -- A body of a set of a byte order.
 module _ (order : Order) where
-  -- The lengths of the texts of record k; Bad where it does not lie inside the body or is no metadata record.
-  unfoldable pub record_texts : List ℕ → ℕ → Texts
+  -- The lengths of the texts of record k; None where it does not lie inside the body or is no metadata record.
+  unfoldable pub record_texts : List ℕ → ℕ → Option Texts
   record_texts file k =
-      cond (leb (record_start file (suc k)) (length file)) (texts_in order file (record_start file k) (record_start file (suc k))) T.Bad
+      cond (leb (record_start file (suc k)) (length file)) (texts_in order file (record_start file k) (record_start file (suc k))) None
 
   -- The body is exactly n good records: each is good, and nothing follows the last.
   unfoldable pub is_body : List ℕ → ℕ → Bool
@@ -50,14 +47,15 @@ module _ (order : Order) where
   longest_description file n = largest_to (λ k. description_length (record_texts file k)) n
 
   -- What reading a body of n records finds: the longest lengths, or that it is none.
-  unfoldable pub body_answer : List ℕ → ℕ → BodyAnswer
-  body_answer file n = cond (is_body file n) (Longest (longest_name file n) (longest_accession file n) (longest_description file n)) Bad
+  unfoldable pub body_answer : List ℕ → ℕ → Option Texts
+  body_answer file n =
+      cond (is_body file n) (Some (record { name = longest_name file n; accession = longest_accession file n; description = longest_description file n })) None
 
 -- Document 01's number of an answer, and its values: the longest name, accession and description.
-abbrev pub body_number : BodyAnswer → ℕ
-body_number (Longest n a d) = 0
-body_number Bad = number_of BadMetadata
+abbrev pub body_number : Option Texts → ℕ
+body_number (Some t) = 0
+body_number None = number_of BadMetadata
 
-abbrev pub body_values : BodyAnswer → List ℕ
-body_values (Longest n a d) = n ∷ a ∷ d ∷ []
-body_values Bad = []
+abbrev pub body_values : Option Texts → List ℕ
+body_values (Some t) = t.name ∷ t.accession ∷ t.description ∷ []
+body_values None = []

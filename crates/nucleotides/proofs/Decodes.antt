@@ -16,7 +16,7 @@ use Rattle.residues.specs.Alphabets.{valid_codes}
 use Rattle.volume.specs.Index.{is_protein}
 use Rattle.volume.specs.Tables.{dna_length}
 use Rattle.volume.proofs.Exact.{dna-type}
-use Rattle.sequence.specs.declared.DecodeAnswer.TheVariants.{Decoded}
+use Rattle.std.specs.Prelude.{Ok}
 use Rattle.sequence.specs.Bases.{base_at}
 use Rattle.sequence.specs.Corrections.{corrected_at}
 use Rattle.sequence.specs.Sequence.{dna_residues, decode_answer, decode_number, residues_of, decode_output}
@@ -97,9 +97,9 @@ module _ (index sequence : List ℕ) (i s : ℕ) (codes : List ℕ)
       ∙ rw (long, st.start, st.range, st.next) (codes-read valid)
 
   -- Given room, decoding answers L ..
-  pub decode_answers : (room : ℕ) → L ≤ room → decode_answer index sequence i room ≡ Decoded L
+  pub decode_answers : (room : ℕ) → L ≤ room → decode_answer index sequence i room ≡ Ok L
   decode_answers room fits =
-      (zero_rules index sequence i room (decodes room fits)).1 ∙ ap Decoded (rw is-dna long)
+      (zero_rules index sequence i room (decodes room fits)).1 ∙ ap Ok (rw is-dna long)
 
   -- .. and the codes stand at the start of the output, whose rest is as it was.
   pub decode_returns : valid_codes dna codes ≡ true → (output : List ℕ) → L ≤ length output → decode_output index sequence i output ≡ written_at 0 codes output

@@ -8,7 +8,7 @@ use native.Mathlib.Omega.{arith}
 use lib.Arith.{digits_lt}
 use lib.Dec.{eqb}
 use lib.ListN.{length, length-append}
-use lib.Pow.{pow-add, pow_mono, high, low, shr-shr, shl_exact}
+use lib.Pow.{pow_pos, pow-add, pow_mono, high, low, shr-shr, shl_exact}
 use borrow.Author.Tests.{eq-eqb, ne_eqb}
 use Rattle.fields.specs.Number.{big}
 use Rattle.fields.specs.Written.{number_bytes}
@@ -20,7 +20,9 @@ use Rattle.residues.specs.Tables.{ambiguity_value}
 use Rattle.residues.proofs.Alphabets.{value-valid}
 use Rattle.sequence.specs.declared.Correction.{Correction}
 use Rattle.sequence.specs.Corrections.{correction_of}
-use Rattle.nucleotides.specs.Pieces.{piece, most_repeat}
+use Rattle.nucleotides.specs.declared.width.Width.{Width}
+use Rattle.nucleotides.specs.declared.width.Width.TheVariants.{Narrow, Wide}
+use Rattle.nucleotides.specs.Pieces.{piece, bytes_of, most_repeat, limit_of}
 use Rattle.nucleotides.specs.Table.{entry_of, entry_bytes, table_word, word_bytes, table_bytes, word_size, table_size}
 
 -- ---- the width
@@ -29,10 +31,12 @@ pub widths : (w : ℕ) → (w ≡ 4) ⊎ (w ≡ 8) → (2 ≤ w) × (w ≤ 8)
 widths w (inl e) = omega arith
 widths w (inr e) = omega arith
 
--- what is not 8 is 4
-pub width_four : (w : ℕ) → (w ≡ 4) ⊎ (w ≡ 8) → (w ≡ 8 → ⊥) → w ≡ 4
-width_four w (inl e) n = e
-width_four w (inr e) n = absurd (n e)
+pub width_either : (width : Width) → (bytes_of width ≡ 4) ⊎ (bytes_of width ≡ 8)
+width_either Narrow = inl refl
+width_either Wide = inr refl
+
+pub limit-positive : (width : Width) → 0 < limit_of width
+limit-positive width = pow_pos (2 * bytes_of width - 4)
 
 -- so many entries have a size
 pub entries-most : (w n : ℕ) → (w ≡ 4) ⊎ (w ≡ 8) → n ≤ 2147483647 → w * n ≤ 17179869176
@@ -147,9 +151,6 @@ entry_room w at n all room (inl e) h l = let k : at + 4 * all ≤ room = rw e at
 entry_room w at n all room (inr e) h l = let k : at + 8 * all ≤ room = rw e at l in rw e (omega arith)
 
 -- ---- the word
-
-pub word_none : (w n : ℕ) → n ≡ 0 → word_bytes w n ≡ []
-word_none w n e = rw (eq-eqb n 0 e)
 
 pub word_some : (w n : ℕ) → (n ≡ 0 → ⊥) → word_bytes w n ≡ number_bytes big 4 (table_word w n)
 word_some w n e = rw (ne_eqb n 0 e)

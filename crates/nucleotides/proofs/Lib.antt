@@ -11,3 +11,4 @@ pub mod Back
 pub mod Read
 pub mod Decodes
 pub mod Exact
+mod Parts

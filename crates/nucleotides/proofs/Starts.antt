@@ -3,13 +3,14 @@
 use mathlib.Core.Path.{◌≡◌, refl, sym, ap, ◌∙◌}
 use mathlib.Core.Bool.{cond}
 use mathlib.Core.List.{List}
-use mathlib.Core.Logic.{◌⊎◌, inl, inr, ⊎_elim}
-use Prim.Native.Nat.{ℕ, zero, suc, ◌+◌, ◌-◌, ◌≤◌, ◌<◌}
+use mathlib.Core.Logic.{inl, inr, ⊎_elim}
+use Prim.Native.Nat.{ℕ, zero, suc, ◌+◌, ◌*◌, ◌-◌, ◌/◌, ◌≤◌, ◌<◌}
 use native.Mathlib.Nat.{add-zero}
+use Rattle.std.proofs.Math.Nat.{div-mul-le_self}
 use native.Mathlib.Omega.{arith}
 use lib.Dec.{leb, ltb, eqb}
 use lib.ListN.{length, drop, length-drop}
-use borrow.Author.Tests.{lt-leb, le-leb, leb-true, eq-eqb, eqb-true, eqb-false, ltb-true, ltb-false}
+use borrow.Author.Tests.{lt-leb, le-leb, leb-true, eqb-true, eqb-false, ltb-true, ltb-false}
 use Rattle.laws.specs.Places.{sum_to}
 use Rattle.laws.proofs.Tests.{bool_cases}
 use Rattle.nucleotides.specs.Pieces.{piece_length, pieces_from}
@@ -57,23 +58,8 @@ stretch_only codes k s t p a b =
     (λ e. bool_cases (ltb t s) (λ f. absurd (not-before codes k s p a t b (ltb-true t s f)))
     (λ f. let x = ltb-false s t e in let y = ltb-false t s f in omega arith))
 
-pub ambiguous-plain : (c : ℕ) → c < 4 → 0 ≡ ambiguous c
-ambiguous-plain c h = rw (lt-leb 4 c h)
-
 pub ambiguous-other : (c : ℕ) → 4 ≤ c → 1 ≡ ambiguous c
 ambiguous-other c h = rw (le-leb 4 c h)
-
-pub begun-same : (b c : ℕ) → b ≡ c → 0 ≡ begun b c
-begun-same b c h = rw (eq-eqb b c h)
-
-pub begun-other : (b c : ℕ) → (b ≡ c → ⊥) → ambiguous c ≡ begun b c
-begun-other b c h = bool_cases (eqb b c) (λ e. absurd (h (eqb-true b c e))) (λ e. rw e)
-
--- one place more before codes that are one code
-pub alike_back : (codes : List ℕ) (s p : ℕ) → ((i : ℕ) → s ≤ i → i ≤ p → code_at codes i ≡ code_at codes p) → code_at codes (s - 1) ≡ code_at codes p
-    → (i : ℕ) → s - 1 ≤ i → i ≤ p → code_at codes i ≡ code_at codes p
-alike_back codes s p a e i h l =
-    bool_cases (ltb i s) (λ t. let x = ltb-true i s t in let f : i ≡ s - 1 = omega arith in ap (code_at codes) f ∙ e) (λ t. a i (ltb-false i s t) l)
 
 module _ (codes : List ℕ) (k : ℕ) where
   stretch_one : Stretch codes k k k
@@ -310,3 +296,24 @@ met_cut limit codes from end n k positive h all a b met =
       whole = inl refl;
     } in
     met_piece limit codes from n k limit met positive (omega arith) f.1 (piece_told limit codes k limit positive (omega arith) q).0
+
+-- so many of them as stand up to the end
+cuts : (limit : ℕ) (codes : List ℕ) (from end : ℕ) → 0 < limit → end ≤ length codes
+    → ((k : ℕ) → from ≤ k → k < end → (code_at codes k ≡ code_at codes from) × (4 ≤ code_at codes k))
+    → (n : ℕ) → from + n * limit ≤ end → Met limit codes from n (from + n * limit)
+cuts limit codes from end positive h all zero l =
+    let e : from + zero * limit ≡ from = omega arith in
+    rw e (met_none limit codes from (omega arith))
+cuts limit codes from end positive h all (suc n) l =
+    let e : from + n * limit + limit ≡ from + suc n * limit = grind arith in
+    let f : n + 1 ≡ suc n = omega arith in
+    let m = cuts limit codes from end positive h all n (omega arith) in
+    let r = met_cut limit codes from end n (from + n * limit) positive h all (omega arith) (omega arith) m in
+    rw (f, e) at r
+
+pub cuts_met : (limit : ℕ) (codes : List ℕ) (from end : ℕ) → 0 < limit → end ≤ length codes
+    → ((k : ℕ) → from ≤ k → k < end → (code_at codes k ≡ code_at codes from) × (4 ≤ code_at codes k))
+    → from ≤ end → Met limit codes from ((end - from) / limit) (from + (end - from) / limit * limit)
+cuts_met limit codes from end positive h all l =
+    let d = div-mul-le_self (end - from) limit in
+    cuts limit codes from end positive h all ((end - from) / limit) (omega arith)

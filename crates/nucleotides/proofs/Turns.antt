@@ -1,12 +1,11 @@
 -- The loop that writes both parts: what holds before a block, what a block asks, and what holds behind it. Assumes nothing.
-use mathlib.Core.Path.{◌≡◌, refl, sym, ap, ap₂, ◌∙◌}
+use mathlib.Core.Path.{◌≡◌, sym, ap, ap₂, ◌∙◌}
 use mathlib.Core.List.{List, [], ◌∷◌, ◌++◌}
 use mathlib.Core.Logic.{◌⊎◌, inl, inr}
-use Prim.Native.Nat.{ℕ, ◌+◌, ◌*◌, ◌-◌, ◌/◌, ◌^◌, ◌≤◌}
-use native.Mathlib.Nat.{mul-add, mul-le-mul_left}
+use Prim.Native.Nat.{ℕ, ◌+◌, ◌*◌, ◌-◌, ◌/◌, ◌^◌, ◌≤◌, ◌<◌}
 use native.Mathlib.Omega.{arith}
 use lib.Dec.{ltb}
-use lib.ListN.{length, take, set, length-append, length-drop}
+use lib.ListN.{length, take, drop, set, length-append}
 use borrow.Author.Tests.{ltb-false}
 use Rattle.laws.specs.Places.{list_to}
 use Rattle.laws.specs.Writing.{written_at}
@@ -15,12 +14,14 @@ use Rattle.laws.proofs.Storing.{set_written}
 use Rattle.laws.proofs.Tests.{bool_cases}
 use Rattle.sequence.specs.declared.Correction.{Correction}
 use Rattle.nucleotides.specs.TwoBit.{two_bit_byte, last_byte, two_bit_bytes}
-use Rattle.nucleotides.specs.Pieces.{pieces_from, most_narrow, width_of, most_repeat, corrections_of}
+use Rattle.nucleotides.specs.declared.width.Width.{Width}
+use Rattle.nucleotides.specs.Pieces.{bytes_of, limit_of, piece_length, pieces_from, most_narrow, width_of, most_repeat, corrections_of}
 use Rattle.nucleotides.specs.Table.{entry_bytes, word_bytes, word_size, table_bytes}
-use Rattle.nucleotides.specs.Scan.{bytes_from, Met}
+use Rattle.nucleotides.specs.Scan.{code_at, bytes_from, Met}
 use Rattle.nucleotides.specs.Write.{sequence_bytes, bytes_needed}
-use Rattle.nucleotides.proofs.Stretches.{met_none, met_join, met_all, pieces-count}
-use Rattle.nucleotides.proofs.Both.{both, both_none, both_bytes, both_entries, both_whole}
+use Rattle.nucleotides.proofs.Stretches.{met_more, met_join, met_all}
+use Rattle.nucleotides.proofs.Entries.{width_either, limit-positive, entry_room}
+use Rattle.nucleotides.proofs.Both.{both, both_bytes, both_entries, both_whole}
 
 -- the width and the places of as many codes
 pub width_is : (l : ℕ) → (width_of l ≡ 4) ⊎ (width_of l ≡ 8)
@@ -29,6 +30,16 @@ width_is l = bool_cases (ltb most_narrow l) (λ e. inr (rw e)) (λ e. inl (rw e)
 pub places_fit : (l : ℕ) → l ≤ 8589934592 → l ≤ 2 ^ (6 * width_of l)
 places_fit l h =
     bool_cases (ltb most_narrow l) (λ e. rw e (omega arith)) (λ e. let n = ltb-false most_narrow l e in rw e (omega arith))
+
+-- the next piece of a scan has an entry, and there is room for it
+pub entry_fits : (width : Width) (codes : List ℕ) (k n m length' at room : ℕ) →
+    let w = bytes_of width in
+    let limit = limit_of width in
+    Met limit codes k n m → m < length codes → 4 ≤ code_at codes m → length' ≡ piece_length limit (code_at codes m) (drop (m + 1) codes)
+    → at + w * length (pieces_from limit codes k) ≤ room → (n < length (pieces_from limit codes k)) × (at + w * n + w ≤ room)
+entry_fits width codes k n m length' at room met inside high told fits =
+    let more = met_more (limit_of width) codes k n m length' met (limit-positive width) inside high told in
+    (more, entry_room (bytes_of width) at n _ room (width_either width) more fits)
 
 -- the bytes needed, by the width and the count that were told
 pub needed_is : (codes : List ℕ) (w n : ℕ) → w ≡ width_of (length codes) → n ≡ length (corrections_of codes)
@@ -67,39 +78,7 @@ module _ (codes old : List ℕ) (w limit n : ℕ) where
         let f : w * n ≡ w * length all = ap (λ (k : ℕ). w * k) count-is in
         omega arith
 
-    -- nothing is written
-    pub going_begun : Going old 0 0 0
-    going_begun = record {
-      bytes = omega arith;
-      passed = omega arith;
-      met = met_none limit codes 0 (omega arith);
-      size = refl;
-      holds = both_none w place all old;
-    }
-
     module _ (out : List ℕ) (next done m : ℕ) (g : Going out next done m) where
-      -- the entries so far take no more than all
-      pub done-fits : (done ≤ n) × (w * done ≤ w * n)
-      done-fits = let e = count-is in let s = g.met.some in (omega arith, mul-le-mul_left w (omega arith))
-
-      -- there is room for those of the pieces to come
-      pub entries_fit : place + w * done + w * length (pieces_from limit codes next) ≤ length old
-      entries_fit =
-          let l : length (pieces_from limit codes next) ≡ length all - done = ap length (sym g.met.others) ∙ length-drop done all in
-          let s = g.met.some in
-          let k : done + length (pieces_from limit codes next) ≡ length all = omega arith in
-          let p : w * done + w * length (pieces_from limit codes next) ≡ w * length all =
-          sym (mul-add w done (length (pieces_from limit codes next))) ∙ ap (λ (x : ℕ). w * x) k in
-          let r = room-is in
-          omega arith
-
-      -- there are never more than codes
-      pub done-most : (pieces after : ℕ) → Met limit codes next pieces after → done + pieces ≤ L
-      done-most pieces after a =
-          let s = (met_join limit codes 0 done next pieces after g.met a).some in
-          let n = pieces-count limit 0 0 codes in
-          omega arith
-
       -- a block of two-bit bytes, and the entries of the pieces that begin in it
       pub going_on : (end pieces after at : ℕ) (mid out' : List ℕ) → m ≤ end → end ≤ L / 4 → mid ≡ written_at m (bytes_from codes m (end - m)) out
           → at ≡ place + w * done → out' ≡ written_at at (entry_bytes w (take pieces (pieces_from limit codes next))) mid

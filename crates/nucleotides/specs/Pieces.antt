@@ -3,6 +3,8 @@
 use Rattle.std.specs.Prelude.{Bool, cond, List, [], ◌∷◌, ℕ, zero, suc, ◌*◌, ◌-◌, ◌^◌, min, leb, ltb, eqb, length, drop}
 use Rattle.residues.specs.Tables.{ambiguity_value}
 use Rattle.sequence.specs.declared.Correction.{Correction}
+use Rattle.nucleotides.specs.declared.width.Width.{Width}
+use Rattle.nucleotides.specs.declared.width.Width.TheVariants.{Narrow, Wide}
 
 -- A code of 4 or more: it is corrected.
 abbrev pub is_ambiguous : ℕ → Bool
@@ -41,9 +43,18 @@ most_narrow = 16777216
 abbrev pub width_of : ℕ → ℕ
 width_of l = cond (ltb most_narrow l) 8 4
 
+-- The bytes of an entry of a width.
+abbrev pub bytes_of : Width → ℕ
+bytes_of Narrow = 4
+bytes_of Wide = 8
+
 -- The most residues that an entry of w bytes corrects: 16, or 4,096.
 abbrev pub most_repeat : ℕ → ℕ
 most_repeat w = 2 ^ (2 * w - 4)
+
+-- The same for a width.
+abbrev pub limit_of : Width → ℕ
+limit_of width = most_repeat (bytes_of width)
 
 -- The corrections of a sequence.
 abbrev pub corrections_of : List ℕ → List Correction

@@ -1,6 +1,6 @@
 -- Writing nucleic codes as a volume has them: two-bit bytes and right behind them the ambiguity range (request 2026-03); and the bases of a code.
 -- Assumes nothing.
-use Rattle.std.specs.Prelude.{List, [], ◌∷◌, ◌++◌, ℕ, ◌+◌, leb, ltb, length}
+use Rattle.std.specs.Prelude.{Result, Ok, Err, List, [], ◌∷◌, ◌++◌, ℕ, ◌+◌, leb, ltb, length}
 use Rattle.std.specs.Int.Count.{ones}
 use Rattle.laws.specs.Rules.{Rule, ask, verdict}
 use Rattle.laws.specs.Writing.{written_at}
@@ -10,10 +10,7 @@ use Rattle.answers.specs.declared.Refusal.{Refusal}
 use Rattle.answers.specs.declared.Refusal.TheVariants.{TooLarge, BadCode, NoRoom}
 use Rattle.residues.specs.Alphabets.{valid_codes}
 use Rattle.residues.specs.Tables.{ambiguity_value}
-use Rattle.nucleotides.specs.declared.WriteAnswer.{WriteAnswer}
-use Rattle.nucleotides.specs.declared.WriteAnswer.TheVariants.{Written, Refused}
-use Rattle.nucleotides.specs.declared.BasesAnswer.{BasesAnswer}
-use Rattle.nucleotides.specs.declared.BasesAnswer.TheVariants as B
+use Rattle.nucleotides.specs.declared.Written.{Written}
 use Rattle.nucleotides.specs.TwoBit.{two_bit_size, two_bit_bytes}
 use Rattle.nucleotides.specs.Pieces.{width_of, corrections_of}
 use Rattle.nucleotides.specs.Table.{table_size, table_bytes}
@@ -45,25 +42,28 @@ write_rules codes room =
     ∷ ask (leb (bytes_needed codes) room) NoRoom
     ∷ []
 
-unfoldable pub write_answer : List ℕ → ℕ → WriteAnswer
-write_answer codes room = verdict Refused (Written (two_bit_size (length codes)) (range_size codes)) (write_rules codes room)
+abbrev pub written_sizes : List ℕ → Written
+written_sizes codes = record { two_bit = two_bit_size (length codes); table = range_size codes }
+
+unfoldable pub write_answer : List ℕ → ℕ → Result Written Refusal
+write_answer codes room = verdict Err (Ok (written_sizes codes)) (write_rules codes room)
 
 -- What the output holds afterwards: on success its first bytes are the sequence's and the rest is unchanged; on a refusal all is unchanged.
-abbrev pub written_by : WriteAnswer → List ℕ → List ℕ → List ℕ
-written_by (Written two_bit table) bytes output = written_at 0 bytes output
-written_by (Refused r) bytes output = output
+abbrev pub written_by : Result Written Refusal → List ℕ → List ℕ → List ℕ
+written_by (Ok sizes) bytes output = written_at 0 bytes output
+written_by (Err r) bytes output = output
 
 unfoldable pub write_output : List ℕ → List ℕ → List ℕ
 write_output codes output = written_by (write_answer codes (length output)) (sequence_bytes codes) output
 
 -- Document 01's number of an answer, and its values.
-abbrev pub write_number : WriteAnswer → ℕ
-write_number (Written two_bit table) = 0
-write_number (Refused r) = number_of r
+abbrev pub write_number : Result Written Refusal → ℕ
+write_number (Ok sizes) = 0
+write_number (Err r) = number_of r
 
-abbrev pub write_values : WriteAnswer → List ℕ
-write_values (Written two_bit table) = two_bit ∷ table ∷ []
-write_values (Refused r) = []
+abbrev pub write_values : Result Written Refusal → List ℕ
+write_values (Ok sizes) = sizes.two_bit ∷ sizes.table ∷ []
+write_values (Err r) = []
 
 -- ---- the bases of a code
 
@@ -74,13 +74,13 @@ base_count code = ones (ambiguity_value code)
 abbrev pub bases_rules : ℕ → List (Rule Refusal)
 bases_rules code = ask (ltb code 16) BadCode ∷ []
 
-unfoldable pub bases_answer : ℕ → BasesAnswer
-bases_answer code = verdict B.Refused (B.Bases (base_count code)) (bases_rules code)
+unfoldable pub bases_answer : ℕ → Result ℕ Refusal
+bases_answer code = verdict Err (Ok (base_count code)) (bases_rules code)
 
-abbrev pub bases_number : BasesAnswer → ℕ
-bases_number (B.Bases n) = 0
-bases_number (B.Refused r) = number_of r
+abbrev pub bases_number : Result ℕ Refusal → ℕ
+bases_number (Ok n) = 0
+bases_number (Err r) = number_of r
 
-abbrev pub bases_values : BasesAnswer → List ℕ
-bases_values (B.Bases n) = n ∷ []
-bases_values (B.Refused r) = []
+abbrev pub bases_values : Result ℕ Refusal → List ℕ
+bases_values (Ok n) = n ∷ []
+bases_values (Err r) = []

@@ -1,47 +1,36 @@
 // The pieces of stretches of one code of 4 or more, counted.
-ghost use Rattle.std.specs.Prelude.{◌≡◌, ℕ, ◌+◌, ◌-◌, ◌≤◌, ◌<◌, max, length, drop};
-ghost use Rattle.laws.specs.Places.{largest_to};
-ghost use Rattle.nucleotides.specs.Pieces.{piece_length, pieces_from};
-ghost use Rattle.nucleotides.specs.Scan.{code_at, Met, ambiguous, begun, ambiguous_in, begun_in, Stretch};
+ghost use Rattle.std.specs.Prelude.{◌≡◌, ℕ, ◌+◌, ◌-◌, ◌≤◌, ◌<◌, length, drop};
+ghost use Rattle.laws.specs.Places.{largest_to, sum_to};
+ghost use Rattle.nucleotides.specs.Pieces.{limit_of, piece_length, pieces_from};
+ghost use Rattle.nucleotides.specs.Scan.{code_at, Met, ambiguous, begun, Stretch};
 
+use super::width::Width;
 use super::{Reached, Survey};
 
 // How many codes are looked at together: where all are below 4, no piece begins there. The starts among those behind the first, 7 times 32, are
 // counted in vectors of bytes.
 const BLOCK: usize = 225;
 
-// The largest of the codes from a start up to an end.
-pub(crate) fn largest_in(codes: &[u8], start: usize, end: usize) -> u8
-    requires { (start ≤ end) × (end ≤ length codes.now) }
-    ensures { result ≡ largest_to (λ k. code_at codes.now (start + k)) (end - start) }
-{
-    residues::largest_code(&codes[start..end])
-}
-
 // The length of the piece that begins at a place.
-pub(crate) fn piece_length(codes: &[u8], at: usize, limit: usize) -> usize
-    requires { (at < length codes.now) × (0 < limit) }
-    ensures value { result ≡ piece_length limit (code_at codes.now at) (drop (at + 1) codes.now) }
-    ensures bounds { (0 < result) × (at + result ≤ length codes.now) × (result ≤ limit) }
+pub(crate) fn piece_length(codes: &[u8], at: usize, width: Width) -> usize
+    requires { (at < length codes.now) }
+    ensures value { result ≡ piece_length (limit_of width) (code_at codes.now at) (drop (at + 1) codes.now) }
+    ensures bounds { (0 < result) × (at + result ≤ length codes.now) × (result ≤ limit_of width) }
 {
     let code = codes[at];
-    let mut n: usize = 1;
-    while n < limit {
-        if codes.len() <= at + n {
+    let limit = width.most_repeat();
+    for n in 1..limit {
+        if codes.len() <= at + n || codes[at + n] != code {
             return n;
         }
-        if codes[at + n] != code {
-            return n;
-        }
-        n += 1;
     }
-    n
+    limit
 }
 
 // Counts the pieces that begin from a place on and before an end.
-fn count_pieces(codes: &[u8], from: usize, end: usize, limit: usize) -> Reached
-    requires { (from ≤ length codes.now) × (end ≤ length codes.now) × (0 < limit) }
-    ensures met { Met limit codes.now from result.pieces result.next }
+fn count_pieces(codes: &[u8], from: usize, end: usize, width: Width) -> Reached
+    requires { (from ≤ length codes.now) × (end ≤ length codes.now) }
+    ensures met { Met (limit_of width) codes.now from result.pieces result.next }
     ensures reached { end ≤ result.next }
 {
     let mut k = from;
@@ -51,50 +40,33 @@ fn count_pieces(codes: &[u8], from: usize, end: usize, limit: usize) -> Reached
             k += 1;
             continue;
         }
-        k += piece_length(codes, k, limit);
+        k += piece_length(codes, k, width);
         n += 1;
     }
     Reached { next: k, pieces: n }
 }
 
 // The same, where all codes from the place on and before the end are one code of 4 or more.
-fn cut_stretch(codes: &[u8], from: usize, end: usize, limit: usize) -> Reached
-    requires from_le_end { (from ≤ end) × (end ≤ length codes.now) × (0 < limit) }
+fn cut_stretch(codes: &[u8], from: usize, end: usize, width: Width) -> Reached
+    requires from_le_end { (from ≤ end) × (end ≤ length codes.now) }
     requires by_index { (k : ℕ) → from ≤ k → k < end → (code_at codes.now k ≡ code_at codes.now from) × (4 ≤ code_at codes.now k) }
-    ensures met { Met limit codes.now from result.pieces result.next }
+    ensures met { Met (limit_of width) codes.now from result.pieces result.next }
     ensures reached { end ≤ result.next }
 {
-    let mut k = from;
-    let mut n: usize = 0;
-    while limit <= end - k {
-        k += limit;
-        n += 1;
-    }
-    let rest = count_pieces(codes, k, end, limit);
+    let limit = width.most_repeat();
+    let n = (end - from) / limit;
+    let rest = count_pieces(codes, from + n * limit, end, width);
     Reached {
         next: rest.next,
         pieces: n + rest.pieces,
     }
 }
 
-// The later of two places.
-pub(crate) fn later(a: usize, b: usize) -> usize
-    ensures { result ≡ max a b }
-{
-    if a < b {
-        return b;
-    }
-    a
-}
-
 // 1 at a code of 4 or more, else 0.
 fn is_ambiguous(code: u8) -> u8
     ensures { result ≡ ambiguous code }
 {
-    if code < 4 {
-        return 0;
-    }
-    1
+    u8::from(4 <= code)
 }
 
 // 1 at a code of 4 or more that differs from the one before, else 0.
@@ -107,30 +79,26 @@ fn is_begun(previous: u8, code: u8) -> u8
     is_ambiguous(code)
 }
 
-// How many of the n codes behind a place are 4 or more.
-fn ambiguous_in(codes: &[u8], from: usize, n: usize) -> u8
-    requires { (from + n < length codes.now) × (n < 256) }
-    ensures { result ≡ ambiguous_in codes.now from n }
+// How many codes are 4 or more.
+fn ambiguous_in(codes: &[u8]) -> u8
+    requires { length codes.now < 256 }
+    ensures { result ≡ sum_to (λ i. ambiguous (code_at codes.now i)) (length codes.now) }
 {
-    let mut count: u8 = 0;
-    let mut i: usize = 0;
-    while i < n {
-        count += is_ambiguous(codes[from + i + 1]);
-        i += 1;
+    let mut count = 0;
+    for &code in codes {
+        count += is_ambiguous(code);
     }
     count
 }
 
-// How many of the n codes behind a place are 4 or more and differ from the one before.
-fn begun_in(codes: &[u8], from: usize, n: usize) -> u8
-    requires { (from + n < length codes.now) × (n < 256) }
-    ensures { result ≡ begun_in codes.now from n }
+// How many codes behind the first are 4 or more and differ from the one before.
+fn begun_in(codes: &[u8]) -> u8
+    requires { (0 < length codes.now) × (length codes.now ≤ 256) }
+    ensures { result ≡ sum_to (λ i. begun (code_at codes.now i) (code_at codes.now (i + 1))) (length codes.now - 1) }
 {
-    let mut count: u8 = 0;
-    let mut i: usize = 0;
-    while i < n {
-        count += is_begun(codes[from + i], codes[from + i + 1]);
-        i += 1;
+    let mut count = 0;
+    for i in 0..codes.len() - 1 {
+        count += is_begun(codes[i], codes[i + 1]);
     }
     count
 }
@@ -141,48 +109,39 @@ fn stretch_start(codes: &[u8], from: usize, at: usize) -> usize
     ensures { Stretch codes.now from result at }
 {
     let code = codes[at];
-    let mut s = at;
-    while from < s {
+    for s in (from + 1..at + 1).rev() {
         if codes[s - 1] != code {
             return s;
         }
-        s -= 1;
     }
-    s
+    from
 }
 
 // Where a scan goes on that met all that begins before or at a place, if the stretch of this place reaches the limit behind the place only.
-fn behind(codes: &[u8], from: usize, at: usize, limit: usize) -> usize
-    requires { (from ≤ at) × (at < length codes.now) × (0 < limit) }
-    ensures { (s m : ℕ) → Stretch codes.now from s at → Met limit codes.now from m s
-        → (4 ≤ code_at codes.now at → at < s + limit)
-        → Met limit codes.now from (m + ambiguous (code_at codes.now at)) result × (at < result) }
+fn behind(codes: &[u8], from: usize, at: usize, width: Width) -> usize
+    requires { (from ≤ at) × (at < length codes.now) }
+    ensures { (s m : ℕ) → Stretch codes.now from s at → Met (limit_of width) codes.now from m s
+        → (4 ≤ code_at codes.now at → at < s + limit_of width)
+        → Met (limit_of width) codes.now from (m + ambiguous (code_at codes.now at)) result × (at < result) }
 {
     if codes[at] < 4 {
         return at + 1;
     }
     let s = stretch_start(codes, from, at);
-    s + piece_length(codes, s, limit)
-}
-
-// A count, wider.
-fn wide(x: u8) -> usize
-    ensures { result ≡ x }
-{
-    x as usize
+    s + piece_length(codes, s, width)
 }
 
 // Counts the pieces that begin from a place on and before an end, where no code of a block is above the largest. Where stretches are short, each is one
 // piece: one begins at the first place if its code is 4 or more, and the others where a code of 4 or more differs from the one before.
-fn count_block(codes: &[u8], largest: u8, from: usize, end: usize, limit: usize) -> Reached
-    requires from_in_bounds { (from ≤ length codes.now) × (end ≤ length codes.now) × (0 < limit) × (end ≤ from + 256) }
+fn count_block(codes: &[u8], largest: u8, from: usize, end: usize, width: Width) -> Reached
+    requires from_in_bounds { (from ≤ length codes.now) × (end ≤ length codes.now) × (end ≤ from + 256) }
     requires by_index { (k : ℕ) → from ≤ k → k < end → code_at codes.now k ≤ largest }
-    ensures met { Met limit codes.now from result.pieces result.next }
+    ensures met { Met (limit_of width) codes.now from result.pieces result.next }
     ensures reached { end ≤ result.next }
 {
     if largest < 4 {
         return Reached {
-            next: later(from, end),
+            next: from.max(end),
             pieces: 0,
         };
     }
@@ -193,60 +152,37 @@ fn count_block(codes: &[u8], largest: u8, from: usize, end: usize, limit: usize)
         };
     }
     let n = end - from - 1;
-    let begun = begun_in(codes, from, n);
-    let ambiguous = ambiguous_in(codes, from, n);
+    let begun = begun_in(&codes[from..end]);
+    let ambiguous = ambiguous_in(&codes[from + 1..end]);
     // so many codes of 4 or more are the ones before them: where they are below the limit, each stretch is one piece
-    let kept = wide(ambiguous - begun);
-    if limit <= kept {
+    let kept = usize::from(ambiguous - begun);
+    if width.most_repeat() <= kept {
         if kept == n {
-            return cut_stretch(codes, from, end, limit);
+            return cut_stretch(codes, from, end, width);
         }
-        return count_pieces(codes, from, end, limit);
+        return count_pieces(codes, from, end, width);
     }
     let first = is_ambiguous(codes[from]);
-    let next = behind(codes, from, from + n, limit);
     Reached {
-        next,
-        pieces: wide(first) + wide(begun),
+        next: behind(codes, from, from + n, width),
+        pieces: usize::from(first) + usize::from(begun),
     }
-}
-
-// The end of the block that starts at a place of so many.
-pub(crate) fn block_end(start: usize, len: usize, block: usize) -> usize
-    requires { (start < len) × (0 < block) }
-    ensures { (start < result) × (result ≤ len) × (result ≤ start + block) }
-{
-    if len - start < block {
-        return len;
-    }
-    start + block
-}
-
-// The larger of two codes.
-fn larger(a: u8, b: u8) -> u8
-    ensures { result ≡ max a b }
-{
-    if a < b {
-        return b;
-    }
-    a
 }
 
 // Reads the codes once: the largest, and how many pieces there are.
-pub(crate) fn survey(codes: &[u8], limit: usize) -> Survey
-    requires { 0 < limit }
+pub(crate) fn survey(codes: &[u8], width: Width) -> Survey
     ensures largest { result.largest ≡ largest_to (code_at codes.now) (length codes.now) }
-    ensures pieces { result.pieces ≡ length (pieces_from limit codes.now 0) }
+    ensures pieces { result.pieces ≡ length (pieces_from (limit_of width) codes.now 0) }
 {
     let mut top: u8 = 0;
-    let mut next: usize = 0;
-    let mut pieces: usize = 0;
-    let mut start: usize = 0;
+    let mut next = 0;
+    let mut pieces = 0;
+    let mut start = 0;
     while start < codes.len() {
-        let end = block_end(start, codes.len(), BLOCK);
-        let largest = largest_in(codes, start, end);
-        let reached = count_block(codes, largest, next, end, limit);
-        top = larger(top, largest);
+        let end = (start + BLOCK).min(codes.len());
+        let largest = residues::largest_code(&codes[start..end]);
+        let reached = count_block(codes, largest, next, end, width);
+        top = top.max(largest);
         next = reached.next;
         pieces += reached.pieces;
         start = end;

@@ -1,18 +1,19 @@
 // Two-bit bytes out of nucleic codes.
-ghost use Rattle.std.specs.Prelude.{◌≡◌, [], ◌∷◌, ℕ, ◌+◌, ◌*◌, ◌/◌, ◌≤◌, ◌<◌, length};
+ghost use Rattle.std.specs.Prelude.{◌≡◌, [], ◌∷◌, ℕ, ◌*◌, ◌≤◌, ◌<◌, length};
 ghost use Rattle.laws.specs.Digits.{value};
 ghost use Rattle.laws.specs.Places.{list_to};
-ghost use Rattle.laws.specs.Writing.{written_at};
-ghost use Rattle.nucleotides.specs.TwoBit.{placeholder, last_byte};
-ghost use Rattle.nucleotides.specs.Scan.{code_at, bytes_from};
+ghost use Rattle.nucleotides.specs.TwoBit.{placeholder, two_bit_byte, last_byte};
+ghost use Rattle.nucleotides.specs.Scan.{code_at};
+
+use std::array;
 
 // The base that stands for a code in two bits. Bit 4, set above the value, is the fifth: where no lower bit is set, it picks A.
 fn placeholder(code: u8) -> u8
     ensures value { result ≡ placeholder code }
     ensures small { result < 4 }
 {
-    let v = residues::ambiguity_value(code) as u32;
-    (u32::trailing_zeros(v + 16) % 4) as u8
+    let v = u32::from(residues::ambiguity_value(code));
+    ((v + 16).trailing_zeros() % 4) as u8
 }
 
 // The byte of four bases, the first highest. The factor has a bit for each base, 2^30, 2^20, 2^10 and 1: bits 24 to 31 of the product are the
@@ -32,17 +33,15 @@ fn joined(a: u8, b: u8, c: u8, d: u8) -> u8
     ((a * 4 + b) * 4 + c) * 4 + d
 }
 
-// Writes n whole bytes, from byte m on, of codes that are all below 4.
-fn write_plain(codes: &[u8], m: usize, n: usize, out: &mut [u8])
-    requires n_in_bounds { (4 * (m + n) ≤ length codes.now) × (m + n ≤ length out.old) }
-    requires by_index { (k : ℕ) → 4 * m ≤ k → k < 4 * (m + n) → code_at codes.now k < 4 }
-    ensures { out.new ≡ written_at m (bytes_from codes.now m n) out.old }
+// Writes whole bytes of codes that are all below 4.
+fn write_plain(codes: &[u8], out: &mut [u8])
+    requires four_to_a_byte { length codes.now ≡ 4 * length out.old }
+    requires by_index { (k : ℕ) → k < length codes.now → code_at codes.now k < 4 }
+    ensures { out.new ≡ list_to (two_bit_byte codes.now) (length out.old) }
 {
-    let mut j: usize = 0;
-    while j < n {
-        let k = 4 * (m + j);
-        out[m + j] = packed(codes[k], codes[k + 1], codes[k + 2], codes[k + 3]);
-        j += 1;
+    for j in 0..out.len() {
+        let k = 4 * j;
+        out[j] = packed(codes[k], codes[k + 1], codes[k + 2], codes[k + 3]);
     }
 }
 
@@ -50,45 +49,37 @@ fn write_plain(codes: &[u8], m: usize, n: usize, out: &mut [u8])
 fn placeholders() -> [u8; 16]
     ensures { result ≡ list_to placeholder 16 }
 {
-    let mut bases = [0u8; 16];
-    let mut i: usize = 0;
-    while i < 16 {
-        bases[i] = placeholder(i as u8);
-        i += 1;
-    }
-    bases
+    array::from_fn(|i| placeholder(i as u8))
 }
 
-// Writes n whole bytes, from byte m on. The bases are made before the first byte, so that each code costs a load.
-fn write_mixed(codes: &[u8], m: usize, n: usize, out: &mut [u8])
-    requires n_in_bounds { (4 * (m + n) ≤ length codes.now) × (m + n ≤ length out.old) }
-    requires by_index { (k : ℕ) → 4 * m ≤ k → k < 4 * (m + n) → code_at codes.now k < 16 }
-    ensures { out.new ≡ written_at m (bytes_from codes.now m n) out.old }
+// Writes whole bytes of any codes. The bases are made before the first byte, so that each code costs a load.
+fn write_mixed(codes: &[u8], out: &mut [u8])
+    requires four_to_a_byte { length codes.now ≡ 4 * length out.old }
+    requires by_index { (k : ℕ) → k < length codes.now → code_at codes.now k < 16 }
+    ensures { out.new ≡ list_to (two_bit_byte codes.now) (length out.old) }
 {
     let bases = placeholders();
-    let mut j: usize = 0;
-    while j < n {
-        let k = 4 * (m + j);
+    for j in 0..out.len() {
+        let k = 4 * j;
         let a = bases[codes[k] as usize];
         let b = bases[codes[k + 1] as usize];
         let c = bases[codes[k + 2] as usize];
         let d = bases[codes[k + 3] as usize];
-        out[m + j] = joined(a, b, c, d);
-        j += 1;
+        out[j] = joined(a, b, c, d);
     }
 }
 
-// Writes n whole bytes, from byte m on, of codes of which none is above the largest.
-pub(crate) fn write_bytes(codes: &[u8], largest: u8, m: usize, n: usize, out: &mut [u8])
-    requires n_in_bounds { (4 * (m + n) ≤ length codes.now) × (m + n ≤ length out.old) }
-    requires largest_bound { (largest < 16) × ((k : ℕ) → 4 * m ≤ k → k < 4 * (m + n) → code_at codes.now k ≤ largest) }
-    ensures { out.new ≡ written_at m (bytes_from codes.now m n) out.old }
+// Writes whole bytes of codes of which none is above the largest.
+pub(crate) fn write_bytes(codes: &[u8], largest: u8, out: &mut [u8])
+    requires four_to_a_byte { length codes.now ≡ 4 * length out.old }
+    requires largest_bound { (largest < 16) × ((k : ℕ) → k < length codes.now → code_at codes.now k ≤ largest) }
+    ensures { out.new ≡ list_to (two_bit_byte codes.now) (length out.old) }
 {
     if largest < 4 {
-        write_plain(codes, m, n, out);
-        return;
+        write_plain(codes, out);
+    } else {
+        write_mixed(codes, out);
     }
-    write_mixed(codes, m, n, out);
 }
 
 // The base at a place; behind the last code no bit is set.

@@ -2,64 +2,65 @@
 use mathlib.Core.Path.{◌≡◌, refl, sym, ap, ◌∙◌}
 use mathlib.Core.Bool.{Bool, true, false, not, cond, ◌&&◌}
 use mathlib.Core.List.{List, [], ◌∷◌}
-use Prim.Native.Nat.{ℕ, suc, ◌+◌, ◌*◌, ◌/◌, ◌%◌, ◌^◌, ◌-◌, ◌≤◌, ◌<◌}
+use Prim.Native.Nat.{ℕ, zero, suc, ◌+◌, ◌*◌, ◌-◌, ◌/◌, ◌%◌, ◌^◌, ◌≤◌, ◌<◌}
 use native.Mathlib.Omega.{arith}
-use lib.Dec.{eqb, leb}
-use lib.ListN.{length, take, drop, set}
-use lib.Seq.{paste, length-take-le}
-use borrow.Author.Tests.{lt-ltb, le-ltb, eq-eqb, ne_eqb, eqb-true, eqb-false, le-leb}
+use lib.Dec.{eqb, leb, ltb}
+use lib.ListN.{length, take, drop, get_or}
+use Rattle.std.specs.List.{list_all, prefix_len}
+use Rattle.std.specs.Prelude.{◌==◌, nat_lt}
+use borrow.Author.Tests.{le-ltb, ne_eqb, eqb-true, eqb-false, le-leb}
 use Rattle.laws.specs.Digits.{digits, all_below}
 use Rattle.laws.specs.Writing.{written_at}
 use Rattle.laws.proofs.Tests.{never, bool_cases, both_pass, cond_passed}
-use Rattle.laws.proofs.Digits.{digit, digits-cons, digits-none, length_digits, below_parts}
-use Rattle.laws.proofs.Writing.{write_step, rest_step}
+use Rattle.laws.proofs.Digits.{length_digits, below_parts}
 use Rattle.residues.specs.Alphabets.{is_amino, code_limit}
 use Rattle.packets.specs.Runs.{ends_run, is_five_bit, codes_in, before_fill, residues, only_fill, valid_tailed, inner, final}
 use Rattle.packets.specs.Decoded.{put_at, codes_put, residues_put}
 
-module _ (k n p : ℕ) (h : 0 < n) where
-  pub fill_next : digit k (n - 1) p ≡ 31 → only_fill (digits k n p) ≡ only_fill (digits k (n - 1) p)
-  unfolding only_fill
-  fill_next l = rw (digits-cons k n p h, eq-eqb (digit k (n - 1) p) 31 l)
+-- the six 5-bit codes of a packet
+pub five_codes : (p : ℕ) → digits 5 6 p ≡ p / 2 ^ 25 % 32 ∷ p / 2 ^ 20 % 32 ∷ p / 2 ^ 15 % 32 ∷ p / 2 ^ 10 % 32 ∷ p / 2 ^ 5 % 32 ∷ p / 2 ^ 0 % 32 ∷ []
+unfolding digits
+five_codes p = refl
 
-  pub fill_stops : (digit k (n - 1) p ≡ 31 → ⊥) → only_fill (digits k n p) ≡ false
-  unfolding only_fill
-  fill_stops l = rw (digits-cons k n p h, ne_eqb (digit k (n - 1) p) 31 l)
+-- the one at a place, the first at bit 25
+pub code_place : (p i bit : ℕ) → i < 6 → bit ≡ 25 - 5 * i → p / 2 ^ bit % 32 ≡ get_or (digits 5 6 p) i 0
+unfolding digits
+code_place p zero bit h e = rw e refl
+code_place p (suc zero) bit h e = rw e refl
+code_place p (suc (suc zero)) bit h e = rw e refl
+code_place p (suc (suc (suc zero))) bit h e = rw e refl
+code_place p (suc (suc (suc (suc zero)))) bit h e = rw e refl
+code_place p (suc (suc (suc (suc (suc zero))))) bit h e = rw e refl
+code_place p (suc (suc (suc (suc (suc (suc i)))))) bit h e = let z : ⊥ = omega arith in absurd z
 
-  pub tailed_next : (m : ℕ) → (digit k (n - 1) p ≡ 31 → ⊥) → digit k (n - 1) p < m → valid_tailed m (digits k n p) ≡ valid_tailed m (digits k (n - 1) p)
-  unfolding valid_tailed
-  tailed_next m l b = rw (digits-cons k n p h, ne_eqb (digit k (n - 1) p) 31 l, lt-ltb (digit k (n - 1) p) m b)
+-- only 31
+pub fill_all : (ds : List ℕ) → list_all (λ d. d == 31) ds ≡ only_fill ds
+unfolding only_fill
+fill_all [] = refl
+fill_all (d ∷ ds) = rw (fill_all ds)
 
-  pub tailed_fill : (m : ℕ) → digit k (n - 1) p ≡ 31 → valid_tailed m (digits k n p) ≡ only_fill (digits k (n - 1) p)
-  unfolding valid_tailed
-  tailed_fill m l = rw (digits-cons k n p h, eq-eqb (digit k (n - 1) p) 31 l)
+fill_cons : (d : ℕ) (ds : List ℕ) (b : Bool) → eqb d 31 ≡ b → list_all (λ x. x == 31) (d ∷ ds) ≡ (b && list_all (λ x. x == 31) ds)
+fill_cons d ds b e = ap (λ (c : Bool). c && list_all (λ x. x == 31) ds) e
 
-  pub tailed_stops : (m : ℕ) → (digit k (n - 1) p ≡ 31 → ⊥) → m ≤ digit k (n - 1) p → valid_tailed m (digits k n p) ≡ false
-  unfolding valid_tailed
-  tailed_stops m l b = rw (digits-cons k n p h, ne_eqb (digit k (n - 1) p) 31 l, le-ltb (digit k (n - 1) p) m b)
-
-  pub before-next : (digit k (n - 1) p ≡ 31 → ⊥) → before_fill (digits k n p) ≡ digit k (n - 1) p ∷ before_fill (digits k (n - 1) p)
-  unfolding before_fill
-  before-next l = rw (digits-cons k n p h, ne_eqb (digit k (n - 1) p) 31 l)
-
-  pub before-ends : digit k (n - 1) p ≡ 31 → before_fill (digits k n p) ≡ []
-  unfolding before_fill
-  before-ends l = rw (digits-cons k n p h, eq-eqb (digit k (n - 1) p) 31 l)
-
-module _ (k n p : ℕ) (h : n ≤ 0) where
-  pub fill_done : only_fill (digits k n p) ≡ true
-  unfolding only_fill
-  fill_done = rw (digits-none k n p h)
-
-  pub tailed_done : (m : ℕ) → valid_tailed m (digits k n p) ≡ true
-  unfolding valid_tailed
-  tailed_done m = rw (digits-none k n p h)
-
-  pub before-done : before_fill (digits k n p) ≡ []
-  unfolding before_fill
-  before-done = rw (digits-none k n p h)
+-- the codes below a limit are passed over, and only 31 is left
+pub tailed_all : (m : ℕ) → m ≤ 31 → (ds : List ℕ) → list_all (λ d. d == 31) (drop (prefix_len (λ d. nat_lt d m) ds) ds) ≡ valid_tailed m ds
+unfolding valid_tailed
+tailed_all m h [] = refl
+tailed_all m h (d ∷ ds) =
+    bool_cases (eqb d 31)
+    (λ e. let q : d ≡ 31 = eqb-true d 31 e in rw (e, le-ltb d m (omega arith)) (fill_cons d ds true e ∙ fill_all ds))
+    (λ e.
+    let s : 1 + prefix_len (λ x. nat_lt x m) ds ≡ suc (prefix_len (λ x. nat_lt x m) ds) = omega arith in
+    bool_cases (ltb d m) (λ f. rw (e, f, s) (tailed_all m h ds)) (λ f. rw (e, f) (fill_cons d ds false e)))
 
 -- ---- the codes before the first 31
+
+pub before_while : (ds : List ℕ) → prefix_len (λ d. not (d == 31)) ds ≡ length (before_fill ds)
+unfolding before_fill
+before_while [] = refl
+before_while (d ∷ ds) =
+    elim (d == 31) as (λ (b : Bool). cond (not b) (1 + prefix_len (λ x. not (x == 31)) ds) 0 ≡ length (cond b [] (d ∷ before_fill ds)))
+    [ true ↦ refl | false ↦ omega (arith, before_while ds) ]
 
 pub before_le : (ds : List ℕ) → length (before_fill ds) ≤ length ds
 unfolding before_fill
@@ -151,28 +152,29 @@ amino_codes p e =
 
 -- ---- codes written
 
--- a turn of a loop that writes digits from a place on: n are left, and the one after i is the next
-module _ (k N p : ℕ) (d : List ℕ) (at i n : ℕ) (out : List ℕ) (so_far : out ≡ paste d at (digits k N p) i)
-    (rest : drop i (digits k N p) ≡ digits k n p) (more : 0 < n) where
-  pub put_step : at + i < length d → set out (at + i) (digit k (n - 1) p) ≡ paste d at (digits k N p) (i + 1)
-  put_step room =
-      ap (λ (x : List ℕ). set x (at + i) (digit k (n - 1) p)) so_far
-      ∙ write_step d at (digits k N p) i (digit k (n - 1) p) (digits k (n - 1) p) room (rest ∙ digits-cons k n p more)
-
-  pub put_rest : drop (i + 1) (digits k N p) ≡ digits k (n - 1) p
-  put_rest = rest_step (digits k N p) i (digit k (n - 1) p) (digits k (n - 1) p) (rest ∙ digits-cons k n p more)
-
--- the first digits written
-pub put_done : (k N p count at : ℕ) (d : List ℕ) → count ≤ N → paste d at (digits k N p) count ≡ written_at at (take count (digits k N p)) d
-put_done k N p count at d h = rw (length-take-le count (digits k N p) (rw (length_digits k N p) h))
-
-put_fits : (cs ds : List ℕ) (at : ℕ) (range : List ℕ) → ds ≡ cs → at + length ds ≤ length range → put_at ds at range ≡ written_at at cs range
+pub put_fits : (cs ds : List ℕ) (at : ℕ) (range : List ℕ) → ds ≡ cs → at + length ds ≤ length range → put_at ds at range ≡ written_at at cs range
 put_fits cs ds at range e h = rw (le-leb (at + length ds) (length range) h, e)
 
-put_not : (ds : List ℕ) (at : ℕ) (range : List ℕ) → leb (at + length ds) (length range) ≡ false → put_at ds at range ≡ range
+pub put_not : (ds : List ℕ) (at : ℕ) (range : List ℕ) → leb (at + length ds) (length range) ≡ false → put_at ds at range ≡ range
 put_not ds at range h = rw h
 
 module _ (p at : ℕ) (range : List ℕ) where
+  pub codes_put_five : is_five_bit p ≡ true → put_at (digits 5 6 p) at range ≡ codes_put p at range
+  unfolding codes_put
+  codes_put_five h = rw (codes_five p h)
+
+  pub codes_put_two : is_five_bit p ≡ false → put_at (digits 2 15 p) at range ≡ codes_put p at range
+  unfolding codes_put
+  codes_put_two h = rw (codes_two p h)
+
+  pub residues_put_five : (n : ℕ) → is_five_bit p ≡ true → n ≡ length (before_fill (digits 5 6 p)) → put_at (take n (digits 5 6 p)) at range ≡ residues_put p at range
+  unfolding residues_put
+  residues_put_five n h e = rw (e, before_prefix (digits 5 6 p), residues_five p h)
+
+  pub residues_put_two : is_five_bit p ≡ false → put_at (digits 2 15 p) at range ≡ residues_put p at range
+  unfolding residues_put
+  residues_put_two h = rw (residues_two p h)
+
   pub codes_put_lem : (cs : List ℕ) → codes_in p ≡ cs → at + length cs ≤ length range → codes_put p at range ≡ written_at at cs range
   unfolding codes_put
   codes_put_lem cs e h = put_fits cs (codes_in p) at range e (rw e h)
@@ -188,3 +190,6 @@ module _ (p at : ℕ) (range : List ℕ) where
   pub residues_lost : leb (at + length (residues p)) (length range) ≡ false → residues_put p at range ≡ range
   unfolding residues_put
   residues_lost h = put_not (residues p) at range h
+
+-- what `search` and `grind` are handed to count codes and residues
+pub ruleset counts = (before_while, codes_five, codes_two, residues_five, residues_two, length_digits)

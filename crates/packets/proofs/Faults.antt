@@ -13,6 +13,7 @@ use Rattle.laws.specs.Places.{every}
 use Rattle.laws.proofs.Digits.{below_parts}
 use Rattle.laws.proofs.Places.{every_at}
 use Rattle.laws.proofs.Tests.{never, bool_cases}
+use Rattle.residues.specs.Alphabets.{is_amino}
 use Rattle.packets.specs.Runs.{ends_run, is_five_bit, inner}
 use Rattle.packets.proofs.Codes.{inner-is}
 
@@ -241,5 +242,5 @@ nucleic_fault p h =
     or_none (bit_and p 0x21084210 * (p / 1073741824 % 2)) (p / 2147483648)
     ∙ rw (top_nucleic p h, five_part p, inner-is 1 p) (swapped (ends_run p) (cond (is_five_bit p) (all_below 16 (digits 5 6 p)) true))
 
-pub inner_nucleic : (a p : ℕ) → (a ≡ 3 → ⊥) → inner 1 p ≡ inner a p
-inner_nucleic a p n = rw (inner-is 1 p, inner-is a p, ne_eqb a 3 n)
+pub inner_nucleic : (a p : ℕ) → is_amino a ≡ false → inner 1 p ≡ inner a p
+inner_nucleic a p n = rw (inner-is 1 p, inner-is a p, n)

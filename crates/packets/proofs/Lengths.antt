@@ -33,6 +33,9 @@ run-most a cs =
     (λ xs u h rec. omega (arith, rec, size_six a xs h, length-drop (size a xs) xs))
     cs tt
 
+-- what `search` and `grind` are handed to use it
+pub ruleset at_most = (run-most)
+
 -- without 2-bit packets it has exactly so many
 run-fives : (a : ℕ) (cs : List ℕ) → ((k : ℕ) → is_two_bit a (drop k cs) ≡ false) → length (run a cs) ≡ sixes (length cs)
 run-fives a cs five =

@@ -11,6 +11,7 @@ pub mod Shapes
 pub mod Back
 pub mod Lengths
 pub mod Shortest
+pub mod Stored
 pub mod Reading
 pub mod Ends
 pub mod Bytes

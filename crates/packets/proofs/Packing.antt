@@ -2,7 +2,7 @@
 use mathlib.Core.Path.{◌≡◌, refl, sym, ap, ◌∙◌}
 use mathlib.Core.Bool.{Bool, true, false, not}
 use mathlib.Core.List.{List, [], ◌∷◌}
-use Prim.Native.Nat.{ℕ, zero, suc, pred, ◌+◌, ◌^◌, ◌-◌, ◌≤◌, ◌<◌, min}
+use Prim.Native.Nat.{ℕ, zero, suc, pred, ◌+◌, ◌^◌, ◌≤◌, ◌<◌, min}
 use native.Mathlib.Omega.{arith}
 use lib.Dec.{leb, ltb, lit≤, lit<}
 use lib.ListN.{length, take, drop, get_or, length-drop, drop_of_length-le}
@@ -12,7 +12,7 @@ use Rattle.laws.specs.Digits.{value, all_below}
 use Rattle.laws.proofs.Tests.{never, bool_cases, both_pass}
 use Rattle.laws.proofs.Digits.{below_parts, below-cons, below_none, value-below}
 use Rattle.residues.specs.Alphabets.{is_amino, code_limit}
-use Rattle.packets.specs.declared.TwoBit.TheVariants.{Packet, NotPlain}
+use Rattle.std.specs.Prelude.{Some, None}
 use Rattle.packets.specs.Packing.{plain, is_two_bit, size_of, filled, two_bit_part, next_two_bit, five_bit_part, end_bit, packet_of, size, packet, later, run}
 
 -- ---- plain codes
@@ -22,6 +22,9 @@ unfolding plain
 plain-long zero cs e = omega arith
 plain-long (suc n) [] e = never e
 plain-long (suc n) (c ∷ cs) e = omega (arith, plain-long n cs (both_pass (ltb c 4) (plain n cs) e).1)
+
+-- what `search` and `grind` are handed to use it
+pub ruleset of_plain = (plain-long)
 
 pub plain-short : (n : ℕ) (cs : List ℕ) → length cs < n → plain n cs ≡ false
 plain-short n cs h = bool_cases (plain n cs) (λ p. let z : ⊥ = omega (arith, plain-long n cs p) in absurd z) (λ p. p)
@@ -44,21 +47,21 @@ below_plain (suc n) (c ∷ cs) h e =
     rw (lt-ltb c 4 p.0) (below_plain n cs (omega arith) p.1)
 
 -- the 2-bit packet that comes next is found exactly where fifteen do
-pub two_found : (cs : List ℕ) (p : ℕ) → plain 15 cs ≡ true → p ≡ two_bit_part cs → Packet p ≡ next_two_bit cs
+pub two_found : (cs : List ℕ) (p : ℕ) → plain 15 cs ≡ true → p ≡ two_bit_part cs → Some p ≡ next_two_bit cs
 unfolding next_two_bit
 two_found cs p e f = rw (e, f)
 
-pub two_missed : (cs : List ℕ) → plain 15 cs ≡ false → NotPlain ≡ next_two_bit cs
+pub two_missed : (cs : List ℕ) → plain 15 cs ≡ false → None ≡ next_two_bit cs
 unfolding next_two_bit
 two_missed cs e = rw e
 
-pub found_two : (cs : List ℕ) (p : ℕ) → next_two_bit cs ≡ Packet p → (plain 15 cs ≡ true) × (p ≡ two_bit_part cs)
+pub found_two : (cs : List ℕ) (p : ℕ) → next_two_bit cs ≡ Some p → (plain 15 cs ≡ true) × (p ≡ two_bit_part cs)
 found_two cs p f =
     bool_cases (plain 15 cs)
     (λ e. let g = two_found cs (two_bit_part cs) e refl ∙ f in (e, (cc)))
     (λ e. let g = two_missed cs e ∙ f in ((cc), (cc)))
 
-pub missed_two : (cs : List ℕ) → next_two_bit cs ≡ NotPlain → plain 15 cs ≡ false
+pub missed_two : (cs : List ℕ) → next_two_bit cs ≡ None → plain 15 cs ≡ false
 missed_two cs f = bool_cases (plain 15 cs) (λ e. let g = two_found cs (two_bit_part cs) e refl ∙ f in (cc)) (λ e. e)
 
 -- ---- the codes of a packet
@@ -235,3 +238,6 @@ run-some a cs = rw run-cons (omega arith)
 -- every alphabet has codes
 pub limit_some : (a : ℕ) → 0 < code_limit a
 limit_some a = bool_cases (is_amino a) (λ e. rw e (lit< tt)) (λ e. rw e (lit< tt))
+
+-- what `search` and `grind` are handed to tell the next packet
+pub ruleset next_packet = (two_plain, packet_two, packet_five, size_two, size_five)

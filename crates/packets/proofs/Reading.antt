@@ -1,21 +1,22 @@
 -- A run read with no test between packets: all that stand before the last at once, and then the last one decides. Assumes nothing.
-use mathlib.Core.Path.{◌≡◌, refl, sym, ap, ◌∙◌}
+use mathlib.Core.Path.{◌≡◌, sym, ap, ◌∙◌}
 use mathlib.Core.Bool.{Bool, true, false, cond}
-use mathlib.Core.List.{List, [], ◌∷◌}
+use mathlib.Core.List.{List, [], ◌∷◌, ◌++◌}
 use Prim.Native.Nat.{ℕ, zero, suc, ◌+◌, ◌*◌, ◌/◌, ◌%◌, ◌^◌, ◌≤◌, ◌<◌}
 use native.Mathlib.Numerals.{add-one}
 use native.Mathlib.Omega.{arith}
 use borrow.Author.Tests.{ne_eqb}
 use lib.Bits.{bit_or}
 use lib.Dec.{eqb}
-use lib.ListN.{length, drop, get_or, drop_of_length-le}
+use lib.ListN.{length, drop, get_or, get_or-append, drop_of_length-le}
+use lib.Seq.{get_or-append_seam}
 use Rattle.laws.proofs.Digits.{length_digits}
+use Rattle.laws.proofs.Places.{every-same, sum_same}
 use Rattle.laws.proofs.Tests.{never, bool_cases, both_pass}
 use Rattle.laws.proofs.Writing.{drop-step}
 use Rattle.packets.specs.Runs.{codes_in, residues, inner, formed, well_formed, unpacked}
 use Rattle.packets.specs.Reading.{inner_to, codes_to, five_bit_to, run_length}
-use Rattle.packets.specs.declared.RunLength.{RunLength}
-use Rattle.packets.specs.declared.RunLength.TheVariants.{Residues, NoRun}
+use Rattle.std.specs.Prelude.{Option, Some, None}
 use Rattle.packets.proofs.Codes.{codes-count, amino_codes}
 use Rattle.packets.proofs.Faults.{or_none}
 use Rattle.packets.proofs.Lengths.{unpacked-most}
@@ -83,13 +84,13 @@ module _ (a : ℕ) (ps : List ℕ) where
 
   -- ---- what reading finds
 
-  pub found_none : length ps ≡ 0 → NoRun ≡ run_length a ps
+  pub found_none : length ps ≡ 0 → None ≡ run_length a ps
   unfolding run_length
   found_none h = rw (none-not a ps h)
 
   -- n packets stand before the last
   module _ (n : ℕ) (h : n + 1 ≡ length ps) where
-    pub found_broken : inner_to a ps n ≡ false → NoRun ≡ run_length a ps
+    pub found_broken : inner_to a ps n ≡ false → None ≡ run_length a ps
     unfolding run_length
     found_broken e = rw (stands_not n (omega arith) e)
 
@@ -101,7 +102,7 @@ module _ (a : ℕ) (ps : List ℕ) where
       decides : b ≡ well_formed a ps
       decides = t ∙ (ap (formed a (eqb n 0)) (sym left) ∙ formed_rest n (omega arith) e)
 
-      pub found_open : b ≡ false → NoRun ≡ run_length a ps
+      pub found_open : b ≡ false → None ≡ run_length a ps
       unfolding run_length
       found_open f = rw (sym decides ∙ f)
 
@@ -113,22 +114,45 @@ module _ (a : ℕ) (ps : List ℕ) where
         pub found_most : m + k ≤ 15 * length ps
         found_most = omega (arith, total, unpacked-most ps)
 
-        pub found_run : b ≡ true → Residues (m + k) ≡ run_length a ps
+        pub found_run : b ≡ true → Some (m + k) ≡ run_length a ps
         unfolding run_length
         found_run f = rw (sym decides ∙ f, total)
 
+-- what `search` and `grind` are handed to take turns
+pub ruleset turns = (inner-more, codes-more, codes-fives, codes-count)
+
+-- the packets before the last, and the last
+module _ (ps before : List ℕ) (last : ℕ) (w : ps ≡ before ++ (last ∷ [])) where
+  before_at : (k : ℕ) → k < length before → get_or before k 0 ≡ get_or ps k 0
+  before_at k h = rw w (sym (get_or-append before (last ∷ []) 0 k h))
+
+  pub inner-before : (a : ℕ) → inner_to a before (length before) ≡ inner_to a ps (length before)
+  inner-before a =
+      every-same (λ k. inner a (get_or before k 0)) (λ k. inner a (get_or ps k 0)) (length before) (λ k h. ap (inner a) (before_at k h))
+
+  pub codes-before : codes_to before (length before) ≡ codes_to ps (length before)
+  codes-before =
+      sum_same (λ k. length (codes_in (get_or before k 0))) (λ k. length (codes_in (get_or ps k 0))) (length before)
+      (λ k h. ap (λ (p : ℕ). length (codes_in p)) (before_at k h))
+
+  pub last_there : last ≡ get_or ps (length before) 0
+  last_there = rw w (sym (get_or-append_seam before last [] 0))
+
 -- what was found says of the packets
-module _ (a : ℕ) (ps : List ℕ) (x : RunLength) (e : x ≡ run_length a ps) where
-  found : (b : Bool) → well_formed a ps ≡ b → x ≡ cond b (Residues (length (unpacked ps))) NoRun
+module _ (a : ℕ) (ps : List ℕ) (x : Option ℕ) (e : x ≡ run_length a ps) where
+  found : (b : Bool) → well_formed a ps ≡ b → x ≡ cond b (Some (length (unpacked ps))) None
   unfolding run_length
   found b w = e ∙ rw w
 
-  pub read-formed : (l : ℕ) → x ≡ Residues l → (well_formed a ps ≡ true) × (l ≡ length (unpacked ps))
+  pub read-formed : (l : ℕ) → x ≡ Some l → (well_formed a ps ≡ true) × (l ≡ length (unpacked ps))
   read-formed l f =
       bool_cases (well_formed a ps)
       (λ w. let g = sym f ∙ found true w in (w, cc))
       (λ w. let g = sym f ∙ found false w in absurd (let z : ◌≡◌ {A = ℕ} 0 1 = cc in omega arith))
 
-  pub read-not : x ≡ NoRun → well_formed a ps ≡ false
+  pub read-not : x ≡ None → well_formed a ps ≡ false
   read-not f =
       bool_cases (well_formed a ps) (λ w. let g = sym f ∙ found true w in absurd (let z : ◌≡◌ {A = ℕ} 0 1 = cc in omega arith)) (λ w. w)
+
+-- what `search` and `grind` are handed to use what was found
+pub ruleset reads = (read-formed, read-not)

@@ -1,11 +1,9 @@
 -- The packing rule (document 01, "Packets"). A residue is its code, a packet its 32-bit number.
 -- `next` are the next codes, of which fifteen are enough, and `left` is how many residues remain.
 -- Assumes nothing.
-use Rattle.std.specs.Prelude.{Bool, true, false, not, cond, ◌&&◌, List, [], ◌∷◌, ℕ, zero, suc, pred, ◌+◌, ◌*◌, ◌/◌, ◌%◌, ◌^◌, min, max, leb, ltb, length, take, get_or}
+use Rattle.std.specs.Prelude.{Bool, true, false, not, cond, ◌&&◌, List, [], ◌∷◌, Option, Some, None, ℕ, zero, suc, pred, ◌+◌, ◌*◌, ◌/◌, ◌%◌, ◌^◌, min, max, leb, ltb, length, take, get_or}
 use Rattle.laws.specs.Digits.{value}
 use Rattle.residues.specs.Alphabets.{is_amino}
-use Rattle.packets.specs.declared.TwoBit.{TwoBit}
-use Rattle.packets.specs.declared.TwoBit.TheVariants.{Packet, NotPlain}
 
 -- At least n residues remain and the next n codes are all below 4.
 unfoldable pub plain : ℕ → List ℕ → Bool
@@ -36,8 +34,8 @@ abbrev pub two_bit_part : List ℕ → ℕ
 two_bit_part next = value 2 0 (take 15 next)
 
 -- The 2-bit packet, with bit 31 clear, where fifteen codes below 4 come next.
-unfoldable pub next_two_bit : List ℕ → TwoBit
-next_two_bit next = cond (plain 15 next) (Packet (two_bit_part next)) NotPlain
+unfoldable pub next_two_bit : List ℕ → Option ℕ
+next_two_bit next = cond (plain 15 next) (Some (two_bit_part next)) None
 
 -- Bit 30, and six 5-bit codes from bit 29 down.
 abbrev pub five_bit_part : List ℕ → ℕ

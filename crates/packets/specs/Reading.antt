@@ -1,10 +1,8 @@
 -- Packets read as a run: what is asked of those before the last and counted of them, and what reading finds.
 -- Assumes nothing.
-use Rattle.std.specs.Prelude.{Bool, cond, List, ℕ, ◌/◌, ◌%◌, ◌^◌, length, get_or}
+use Rattle.std.specs.Prelude.{Bool, cond, Option, Some, None, List, ℕ, ◌/◌, ◌%◌, ◌^◌, length, get_or}
 use Rattle.laws.specs.Places.{every, sum_to}
 use Rattle.packets.specs.Runs.{codes_in, inner, well_formed, unpacked}
-use Rattle.packets.specs.declared.RunLength.{RunLength}
-use Rattle.packets.specs.declared.RunLength.TheVariants.{Residues, NoRun}
 
 -- Each of the first n packets may stand in a run before its last.
 abbrev pub inner_to : ℕ → List ℕ → ℕ → Bool
@@ -17,6 +15,6 @@ codes_to packets n = sum_to (λ k. length (codes_in (get_or packets k 0))) n
 abbrev pub five_bit_to : List ℕ → ℕ → ℕ
 five_bit_to packets n = sum_to (λ k. get_or packets k 0 / 2 ^ 30 % 2) n
 
--- The number of residues of a well-formed run; otherwise that it is none.
-unfoldable pub run_length : ℕ → List ℕ → RunLength
-run_length alphabet packets = cond (well_formed alphabet packets) (Residues (length (unpacked packets))) NoRun
+-- The number of residues of a well-formed run; none where packets are no such run.
+unfoldable pub run_length : ℕ → List ℕ → Option ℕ
+run_length alphabet packets = cond (well_formed alphabet packets) (Some (length (unpacked packets))) None

@@ -1,9 +1,9 @@
 // One packet from codes: the packing rule's next packet, and the test of all codes of a sequence.
 ghost use Rattle.std.specs.Prelude.{◌≡◌, true, ◌+◌, ◌*◌, ◌/◌, ◌^◌, ◌%◌, ◌≤◌, ◌<◌, leb, length, get_or};
 ghost use Rattle.residues.specs.Alphabets.{valid_codes};
-ghost use Rattle.packets.specs.Packing.{sixes, four_from, plain, is_two_bit, size_of, two_bit_part, next_two_bit, five_bit_part, end_bit, packet_of};
+ghost use Rattle.packets.specs.Packing.{sixes, four_from, filled, plain, is_two_bit, size_of, two_bit_part, next_two_bit, five_bit_part, end_bit, packet_of};
 
-use crate::{Next, TwoBit};
+use crate::Next;
 
 // Whether every code of a sequence is valid in its alphabet.
 pub fn valid_codes(alphabet: u32, codes: &[u8]) -> bool
@@ -16,18 +16,7 @@ pub fn valid_codes(alphabet: u32, codes: &[u8]) -> bool
 pub fn sixes_of(left: usize) -> usize
     ensures { result ≡ sixes left }
 {
-    if left == 0 {
-        return 1;
-    }
-    (left - 1) / 6 + 1
-}
-
-// A code as a wider number.
-fn wide(c: u8) -> u64
-    ensures value { result ≡ c }
-    ensures small { result < 256 }
-{
-    c as u64
+    left.div_ceil(6).max(1)
 }
 
 // Four codes as the bytes of a number, the first in the lowest.
@@ -36,7 +25,7 @@ fn four_at(next: &[u8], at: usize) -> u64
     ensures value { result ≡ four_from next.now at }
     ensures small { result < 2 ^ 32 }
 {
-    fields::word(next[at], next[at + 1], next[at + 2], next[at + 3]) as u64
+    u64::from(fields::word(next[at], next[at + 1], next[at + 2], next[at + 3]))
 }
 
 // Four codes below 4, each in its byte, as one number of four digits: the product moves each to its digit.
@@ -61,16 +50,15 @@ fn plain_next(next: &[u8]) -> bool
 }
 
 // Whether the next packet holds 2-bit codes.
+#[tactic(auto, unfolding(crate::specs::Packing::is_two_bit))]
 fn is_two_bit(alphabet: u32, next: &[u8]) -> bool
     ensures { result ≡ is_two_bit alphabet next.now }
 {
-    if alphabet == 3 {
-        return false;
-    }
-    plain_next(next)
+    !residues::is_amino(alphabet) && plain_next(next)
 }
 
 // The fifteen 2-bit codes of the next packet.
+#[tactic(auto, using(crate::proofs::Packing::of_plain))]
 fn two_bit(next: &[u8]) -> u64
     requires { plain 15 next.now ≡ true }
     ensures value { result ≡ two_bit_part next.now }
@@ -82,65 +70,58 @@ fn two_bit(next: &[u8]) -> u64
         + four_bases(four_at(next, 11)) % 64
 }
 
-// The 2-bit packet of the next fifteen codes, where they are all below 4.
-pub fn next_two_bit(next: &[u8]) -> TwoBit
+// The 2-bit packet of the next fifteen codes, with bit 31 clear, where they are all below 4.
+#[tactic(auto, unfolding(crate::specs::Packing::next_two_bit))]
+pub fn next_two_bit(next: &[u8]) -> Option<u32>
     ensures { result ≡ next_two_bit next.now }
 {
     if plain_next(next) {
-        return TwoBit::Packet(two_bit(next) as u32);
+        Some(two_bit(next) as u32)
+    } else {
+        None
     }
-    TwoBit::NotPlain
 }
 
 // The code at a place; 31 past the end.
-fn code_or_fill(next: &[u8], k: usize) -> u64
-    ensures value { result ≡ get_or next.now k 31 }
-    ensures small { result < 256 }
+fn code_or_fill(next: &[u8], k: usize) -> u8
+    ensures { result ≡ get_or next.now k 31 }
 {
-    if next.len() <= k {
-        return 31;
+    next.get(k).copied().unwrap_or(31)
+}
+
+// The next six codes; 31 past the end. One by one they are faster than a copy of so many as are left, which is a call.
+#[tactic(auto, using(crate::proofs::Filled::six_whole, crate::proofs::Filled::six_filled))]
+fn six_codes(next: &[u8]) -> [u8; 6]
+    ensures { result ≡ filled 6 next.now }
+{
+    if next.len() < 6 {
+        [
+            code_or_fill(next, 0),
+            code_or_fill(next, 1),
+            code_or_fill(next, 2),
+            code_or_fill(next, 3),
+            code_or_fill(next, 4),
+            code_or_fill(next, 5),
+        ]
+    } else {
+        [next[0], next[1], next[2], next[3], next[4], next[5]]
     }
-    wide(next[k])
-}
-
-// Bit 30 and the six 5-bit codes of the next packet, where six are left.
-fn five_whole(next: &[u8]) -> u64
-    requires { 6 ≤ length next.now }
-    ensures value { result ≡ five_bit_part next.now }
-    ensures small { result < 2 ^ 34 }
-{
-    0x40000000
-        + wide(next[0]) * 33554432
-        + wide(next[1]) * 1048576
-        + wide(next[2]) * 32768
-        + wide(next[3]) * 1024
-        + wide(next[4]) * 32
-        + wide(next[5])
-}
-
-// The same where fewer are left: the rest is filled with 31.
-fn five_filled(next: &[u8]) -> u64
-    ensures value { result ≡ five_bit_part next.now }
-    ensures small { result < 2 ^ 34 }
-{
-    0x40000000
-        + code_or_fill(next, 0) * 33554432
-        + code_or_fill(next, 1) * 1048576
-        + code_or_fill(next, 2) * 32768
-        + code_or_fill(next, 3) * 1024
-        + code_or_fill(next, 4) * 32
-        + code_or_fill(next, 5)
 }
 
 // Bit 30 and the six 5-bit codes of the next packet.
+#[tactic(auto, using(crate::proofs::Filled::six_sum))]
 fn five_bit(next: &[u8]) -> u64
     ensures value { result ≡ five_bit_part next.now }
     ensures small { result < 2 ^ 34 }
 {
-    if next.len() < 6 {
-        return five_filled(next);
-    }
-    five_whole(next)
+    let codes = six_codes(next);
+    0x40000000
+        + u64::from(codes[0]) * 33554432
+        + u64::from(codes[1]) * 1048576
+        + u64::from(codes[2]) * 32768
+        + u64::from(codes[3]) * 1024
+        + u64::from(codes[4]) * 32
+        + u64::from(codes[5])
 }
 
 // Bit 31 where a packet takes all residues that are left.
@@ -148,28 +129,26 @@ fn end_bit(left: usize, taken: usize) -> u64
     ensures value { result ≡ end_bit (leb left taken) }
     ensures small { result ≤ 2 ^ 31 }
 {
-    if left <= taken {
-        return 0x80000000;
-    }
-    0
+    if left <= taken { 0x80000000 } else { 0 }
 }
 
 // The next packet as a 32-bit number, from the next codes and the count of residues that are left. Fifteen codes are enough.
+#[tactic(auto, using(crate::proofs::Packing::next_packet))]
 pub fn encode(alphabet: u32, next: &[u8], left: usize) -> Next
     ensures packet { result.packet ≡ packet_of alphabet next.now left % 2 ^ 32 }
     ensures size { result.size ≡ size_of alphabet next.now left }
 {
     if is_two_bit(alphabet, next) {
         let whole = end_bit(left, 15) + two_bit(next);
-        return Next {
+        Next {
             packet: (whole % 4294967296) as u32,
             size: 15,
-        };
+        }
+    } else {
+        let whole = end_bit(left, 6) + five_bit(next);
+        Next {
+            packet: (whole % 4294967296) as u32,
+            size: left.min(6),
+        }
     }
-    let whole = end_bit(left, 6) + five_bit(next);
-    let packet = (whole % 4294967296) as u32;
-    if left < 6 {
-        return Next { packet, size: left };
-    }
-    Next { packet, size: 6 }
 }

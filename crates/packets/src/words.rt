@@ -4,7 +4,7 @@ ghost use Rattle.fields.specs.Number.{big, number};
 ghost use Rattle.fields.specs.Written.{little_bytes};
 ghost use Rattle.packets.specs.Runs.{inner};
 
-use crate::{amino_fault, inner_fault};
+use crate::{amino_fault, nucleic_fault};
 use fields::Order;
 
 // 0 where the big-endian packet of a word may stand in a nucleic run before its last. No byte is turned, but the mask and the two bits are,
@@ -16,22 +16,16 @@ fn turned_nucleic_fault(word: u32) -> u32
     (word & 0x10420821) * five | word / 128 % 2
 }
 
-// 0 where the big-endian packet of a word may stand in a run before its last.
-fn turned_fault(alphabet: u32, word: u32) -> u32
-    ensures { eqb result 0 ≡ inner alphabet (number big (little_bytes 4 word)) }
-{
-    if alphabet == 3 {
-        return amino_fault(fields::number_by(Order::Big, word));
-    }
-    turned_nucleic_fault(word)
-}
-
 // 0 where the packet of a word, in an order, may stand in a run before its last.
+#[tactic(auto, using(crate::proofs::Faults::inner_nucleic))]
 pub fn word_fault(order: Order, alphabet: u32, word: u32) -> u32
     ensures { eqb result 0 ≡ inner alphabet (number order (little_bytes 4 word)) }
 {
+    if residues::is_amino(alphabet) {
+        return amino_fault(fields::number_by(order, word));
+    }
     match order {
-        Order::Big => turned_fault(alphabet, word),
-        Order::Little => inner_fault(alphabet, word),
+        Order::Big => turned_nucleic_fault(word),
+        Order::Little => nucleic_fault(word),
     }
 }

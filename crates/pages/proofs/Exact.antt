@@ -10,6 +10,7 @@ use borrow.Author.Tests.{leb-true, leb-false}
 use lib.Dec.{leb}
 use lib.ListN.{length, get_or, set, take, drop, length-set, length-drop, take-append-drop}
 use lib.Seq.{slice, take-length, take-take, take_at, take-suc-set, drop-set-lt, drop_at, length-take-le}
+use Rattle.std.specs.Prelude.{Result, Ok, Err}
 use Rattle.laws.specs.Writing.{written_at, Begun}
 use Rattle.laws.proofs.Begun.{begun_written}
 use Rattle.laws.proofs.Places.{sum-rises}
@@ -19,13 +20,10 @@ use Rattle.laws.proofs.Tests.{bool_cases}
 use Rattle.laws.proofs.Writing.{drop-later}
 use Rattle.answers.specs.declared.Refusal.{Refusal}
 use Rattle.sequence.specs.Sequence.{decode_answer, decode_number, residues_of}
-use Rattle.sequence.specs.declared.DecodeAnswer.{DecodeAnswer}
-use Rattle.sequence.specs.declared.DecodeAnswer.TheVariants.{Decoded, Refused}
 use Rattle.sequence.proofs.Decoded.{decoded_length, decoded_fits, decoded_count, decoded_output}
-use Rattle.pages.specs.declared.PageAnswer.{PageAnswer}
-use Rattle.pages.specs.declared.PageAnswer.TheVariants.{Fetched, Stopped}
 use Rattle.pages.specs.Page.{Progress, begun, left, item_answer, item_output, counted, step, Outcome, fetch_all}
-use Rattle.pages.specs.Page.{page_of, page_answer, page_output, page_ends}
+use Rattle.pages.specs.declared.Stop.{Stop}
+use Rattle.pages.specs.Page.{stopped_at, page_of, page_answer, page_output, page_ends}
 use Rattle.pages.specs.Holds.{item_length, filled_by, ItemsDone, PageHolds, large, short, whole, refused}
 use Rattle.pages.proofs.Steps.{item-done, output-size, list_goes_on, list_stops, list-ends}
 use Rattle.pages.proofs.Steps.{index_large, sequence_large, ends-short, page_items}
@@ -70,11 +68,11 @@ module _ (index sequence numbers output ends : List ℕ) where
   filled = filled_by index sequence numbers
 
   -- a single fetch of item k, behind the items before it
-  abbrev fetch : ℕ → DecodeAnswer
+  abbrev fetch : ℕ → Result ℕ Refusal
   fetch k = decode_answer index sequence (number k) (length output - filled k)
 
   abbrev Fetches : ℕ → Type 0
-  Fetches n = (k : ℕ) → k < n → fetch k ≡ Decoded (item_length index sequence numbers k)
+  Fetches n = (k : ℕ) → k < n → fetch k ≡ Ok (item_length index sequence numbers k)
 
   abbrev reached : ℕ → Progress
   reached zero = begun output ends
@@ -101,7 +99,7 @@ module _ (index sequence numbers output ends : List ℕ) where
   abbrev Done : ℕ → List ℕ → List ℕ → Type 0
   Done = ItemsDone index sequence numbers output ends
 
-  module _ (n : ℕ) (o e : List ℕ) (d : Done n o e) (given : fetch n ≡ Decoded (item_length index sequence numbers n)) (room : filled (suc n) ≤ length o)
+  module _ (n : ℕ) (o e : List ℕ) (d : Done n o e) (given : fetch n ≡ Ok (item_length index sequence numbers n)) (room : filled (suc n) ≤ length o)
       (place : n < length e) where
     abbrev codes : List ℕ
     codes = residues_of index sequence (number n)
@@ -130,17 +128,17 @@ module _ (index sequence numbers output ends : List ℕ) where
               ∙ drop-later n (suc n) e ends (omega arith) d.ends_rest;
         }
 
-  module _ (n : ℕ) (a : Reached n) (given : fetch n ≡ Decoded (item_length index sequence numbers n)) (place : n < length ends) where
+  module _ (n : ℕ) (a : Reached n) (given : fetch n ≡ Ok (item_length index sequence numbers n)) (place : n < length ends) where
     abbrev p : Progress
     p = reached n
 
     abbrev l : ℕ
     l = item_length index sequence numbers n
 
-    answered : item_answer index sequence (number n) p ≡ Decoded l
+    answered : item_answer index sequence (number n) p ≡ Ok l
     answered = answer_at n a ∙ given
 
-    is-counted : reached (suc n) ≡ counted (Decoded l) (item_output index sequence (number n) p) p
+    is-counted : reached (suc n) ≡ counted (Ok l) (item_output index sequence (number n) p) p
     is-counted = item-done index sequence (number n) p l answered
 
     next-filled : p.filled + l ≡ filled (suc n)
@@ -212,28 +210,28 @@ module _ (index sequence numbers output ends : List ℕ) where
         let r = at n (omega arith) f in
         let x = walked n (omega arith) (omega arith) f ∙ list-ends index sequence numbers n (reached n) (omega arith) in
         let d : Done (length numbers) (reached n).output (reached n).ends = subst (λ (k : ℕ). Done k (reached n).output (reached n).ends) c r.items in
-        subst Holds (sym x) (whole i s e (ap Fetched (r.done_is ∙ c)) d)
+        subst Holds (sym x) (whole i s e (ap Ok (r.done_is ∙ c)) d)
 
-    stops_at : (n : ℕ) → n < length numbers → Fetches n → (r : Refusal) → fetch n ≡ Refused r
+    stops_at : (n : ℕ) → n < length numbers → Fetches n → (r : Refusal) → fetch n ≡ Err r
         → Holds (fetch_all index sequence numbers (begun output ends))
     stops_at n h f r g =
         let a = at n (omega arith) f in
         let x = walked n (omega arith) (omega arith) f ∙ list_stops index sequence numbers n h (reached n) r (answer_at n a ∙ g) in
-        subst Holds (sym x) (refused i s e n h r g (ap (Stopped r) a.done_is) a.items)
+        subst Holds (sym x) (refused i s e n h r g (ap (stopped_at r) a.done_is) a.items)
 
-    one_more : (n : ℕ) → Fetches n → (l : ℕ) → fetch n ≡ Decoded l → Fetches (suc n)
+    one_more : (n : ℕ) → Fetches n → (l : ℕ) → fetch n ≡ Ok l → Fetches (suc n)
     one_more n f l g k h =
-        ⊎_elim (λ i. rw i (g ∙ ap Decoded (decoded_length index sequence (number n) (length output - filled n) l g))) (λ b. f k b)
+        ⊎_elim (λ i. rw i (g ∙ ap Ok (decoded_length index sequence (number n) (length output - filled n) l g))) (λ b. f k b)
         (eq-or-lt_of_le (le_of_suc-le-suc h))
 
     from : (m n : ℕ) → n + m ≡ length numbers → Fetches n → Holds (fetch_all index sequence numbers (begun output ends))
     from zero n c f = all_done n (omega arith) f
     from (suc m) n c f = by (fetch n) refl (λ more. from m (suc n) (omega arith) more)
       where
-        by : (a : DecodeAnswer) → fetch n ≡ a → (Fetches (suc n) → Holds (fetch_all index sequence numbers (begun output ends)))
+        by : (a : Result ℕ Refusal) → fetch n ≡ a → (Fetches (suc n) → Holds (fetch_all index sequence numbers (begun output ends)))
             → Holds (fetch_all index sequence numbers (begun output ends))
-        by (Decoded l) g on = on (one_more n f l g)
-        by (Refused r) g on = stops_at n (omega arith) f r g
+        by (Ok l) g on = on (one_more n f l g)
+        by (Err r) g on = stops_at n (omega arith) f r g
 
     items-hold : Holds (fetch_all index sequence numbers (begun output ends))
     items-hold = from (length numbers) 0 (omega arith) (λ k h. none_before k h)
@@ -283,11 +281,11 @@ module _ (index sequence numbers output ends : List ℕ) where
         ∙ take-append-drop n e'
 
   -- an answer, an output and a list of ends are those of an outcome
-  abbrev Are : PageAnswer → List ℕ → List ℕ → Outcome → Type 0
+  abbrev Are : Result ℕ Stop → List ℕ → List ℕ → Outcome → Type 0
   Are a o e x = (a ≡ x.answer) × (o ≡ x.progress.output) × (e ≡ x.progress.ends)
 
   -- Whatever meets the plain statement is what the page answers and leaves.
-  pub holds_page : (answer : PageAnswer) (o e : List ℕ) → PageHolds index sequence numbers output ends answer o e
+  pub holds_page : (answer : Result ℕ Stop) (o e : List ℕ) → PageHolds index sequence numbers output ends answer o e
       → Are answer o e (page_of index sequence numbers output ends)
   holds_page answer o e (large (inl i) a b c) = subst (Are answer o e) (index_large index sequence numbers output ends i) (a, b, c)
   holds_page answer o e (large (inr s) a b c) =
@@ -301,7 +299,7 @@ module _ (index sequence numbers output ends : List ℕ) where
       ∙ walked (length numbers) (omega arith) h d.fetched
       ∙ list-ends index sequence numbers (length numbers) (reached (length numbers)) (omega arith) in
       subst (Are answer o e) (sym x) (
-        a ∙ ap Fetched (sym r.done_is),
+        a ∙ ap Ok (sym r.done_is),
         same-output (length numbers) o e _ _ d r.items,
         same_ends (length numbers) o e _ _ d r.items,
       )
@@ -311,4 +309,4 @@ module _ (index sequence numbers output ends : List ℕ) where
       sym (page_items index sequence numbers output ends i s h)
       ∙ walked n (omega arith) (omega arith) d.fetched
       ∙ list_stops index sequence numbers n b (reached n) r (answer_at n w ∙ g) in
-      subst (Are answer o e) (sym x) (a ∙ ap (Stopped r) (sym w.done_is), same-output n o e _ _ d w.items, same_ends n o e _ _ d w.items)
+      subst (Are answer o e) (sym x) (a ∙ ap (stopped_at r) (sym w.done_is), same-output n o e _ _ d w.items, same_ends n o e _ _ d w.items)

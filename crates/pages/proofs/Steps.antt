@@ -5,15 +5,13 @@ use Prim.Native.Nat.{ℕ, ◌+◌, ◌-◌, ◌≤◌, ◌<◌}
 use native.Mathlib.Omega.{arith}
 use lib.ListN.{length, get_or, take, drop, length-append, length-drop, take-append-drop, drop_of_length-le}
 use borrow.Author.Tests.{le-leb, lt-leb}
+use Rattle.std.specs.Prelude.{Result, Ok, Err}
 use Rattle.laws.proofs.Parts.{part_rest}
 use Rattle.laws.proofs.Writing.{drop-step}
 use Rattle.answers.specs.declared.Refusal.{Refusal}
 use Rattle.answers.specs.declared.Refusal.TheVariants.{TooLarge, NoRoom}
 use Rattle.sequence.specs.Sequence.{decode_answer, decode_output}
-use Rattle.sequence.specs.declared.DecodeAnswer.{DecodeAnswer}
-use Rattle.sequence.specs.declared.DecodeAnswer.TheVariants.{Decoded, Refused}
 use Rattle.sequence.proofs.Decoded.{refused-output, output-length}
-use Rattle.pages.specs.declared.PageAnswer.TheVariants.{Fetched}
 use Rattle.pages.specs.Page.{Progress, begun, left, item_answer, item_output, counted, step}
 use Rattle.pages.specs.Page.{Outcome, stopped, followed, fetch_all, page_of}
 
@@ -29,20 +27,20 @@ same_parts x y e = (
 
 module _ (index sequence : List ℕ) (number : ℕ) (p : Progress) where
   -- a refused item leaves the output as it was ..
-  pub output_kept : (r : Refusal) → item_answer index sequence number p ≡ Refused r → item_output index sequence number p ≡ p.output
+  pub output_kept : (r : Refusal) → item_answer index sequence number p ≡ Err r → item_output index sequence number p ≡ p.output
   output_kept r e =
       ap (λ (l : List ℕ). take p.filled p.output ++ l) (refused-output index sequence number (left p) r e)
       ∙ take-append-drop p.filled p.output
 
   -- .. and changes nothing else
-  pub item_kept : (r : Refusal) → item_answer index sequence number p ≡ Refused r → step index sequence number p ≡ p
+  pub item_kept : (r : Refusal) → item_answer index sequence number p ≡ Err r → step index sequence number p ≡ p
   item_kept r e =
-      ap (λ (a : DecodeAnswer). counted a (item_output index sequence number p) p) e
-      ∙ ap (λ (o : List ℕ). counted (Refused r) o p) (output_kept r e)
+      ap (λ (a : Result ℕ Refusal). counted a (item_output index sequence number p) p) e
+      ∙ ap (λ (o : List ℕ). counted (Err r) o p) (output_kept r e)
 
-  pub item-done : (l : ℕ) → item_answer index sequence number p ≡ Decoded l
-      → step index sequence number p ≡ counted (Decoded l) (item_output index sequence number p) p
-  item-done l e = ap (λ (a : DecodeAnswer). counted a (item_output index sequence number p) p) e
+  pub item-done : (l : ℕ) → item_answer index sequence number p ≡ Ok l
+      → step index sequence number p ≡ counted (Ok l) (item_output index sequence number p) p
+  item-done l e = ap (λ (a : Result ℕ Refusal). counted a (item_output index sequence number p) p) e
 
   -- the output is as long as it was
   pub output-size : length (item_output index sequence number p) ≡ length p.output
@@ -58,14 +56,14 @@ module _ (index sequence : List ℕ) (number : ℕ) (p : Progress) where
     abbrev next : Progress
     next = step index sequence number p
 
-    pub goes_on : (l : ℕ) → item_answer index sequence number p ≡ Decoded l
+    pub goes_on : (l : ℕ) → item_answer index sequence number p ≡ Ok l
         → fetch_all index sequence (number ∷ numbers) p ≡ fetch_all index sequence numbers next
     unfolding fetch_all
-    goes_on l e = ap (λ (a : DecodeAnswer). followed a (fetch_all index sequence numbers next) next) e
+    goes_on l e = ap (λ (a : Result ℕ Refusal). followed a (fetch_all index sequence numbers next) next) e
 
-    pub stops : (r : Refusal) → item_answer index sequence number p ≡ Refused r → fetch_all index sequence (number ∷ numbers) p ≡ stopped r p
+    pub stops : (r : Refusal) → item_answer index sequence number p ≡ Err r → fetch_all index sequence (number ∷ numbers) p ≡ stopped r p
     unfolding fetch_all
-    stops r e = ap (λ (a : DecodeAnswer). followed a (fetch_all index sequence numbers next) next) e ∙ ap (stopped r) (item_kept r e)
+    stops r e = ap (λ (a : Result ℕ Refusal). followed a (fetch_all index sequence numbers next) next) e ∙ ap (stopped r) (item_kept r e)
 
 -- ---- item i of a list
 
@@ -73,17 +71,17 @@ module _ (index sequence numbers : List ℕ) (i : ℕ) (h : i < length numbers) 
   abbrev number : ℕ
   number = get_or numbers i 0
 
-  pub list_goes_on : (l : ℕ) → item_answer index sequence number p ≡ Decoded l
+  pub list_goes_on : (l : ℕ) → item_answer index sequence number p ≡ Ok l
       → fetch_all index sequence (drop i numbers) p ≡ fetch_all index sequence (drop (i + 1) numbers) (step index sequence number p)
   list_goes_on l e =
       ap (λ (ns : List ℕ). fetch_all index sequence ns p) (drop-step numbers i 0 h) ∙ goes_on index sequence number p (drop (i + 1) numbers) l e
 
-  pub list_stops : (r : Refusal) → item_answer index sequence number p ≡ Refused r → fetch_all index sequence (drop i numbers) p ≡ stopped r p
+  pub list_stops : (r : Refusal) → item_answer index sequence number p ≡ Err r → fetch_all index sequence (drop i numbers) p ≡ stopped r p
   list_stops r e =
       ap (λ (ns : List ℕ). fetch_all index sequence ns p) (drop-step numbers i 0 h) ∙ stops index sequence number p (drop (i + 1) numbers) r e
 
 pub list-ends : (index sequence numbers : List ℕ) (i : ℕ) (p : Progress) → length numbers ≤ i
-    → fetch_all index sequence (drop i numbers) p ≡ record { answer = Fetched p.done; progress = p }
+    → fetch_all index sequence (drop i numbers) p ≡ record { answer = Ok p.done; progress = p }
 unfolding fetch_all
 list-ends index sequence numbers i p h = rw (drop_of_length-le numbers h)
 
@@ -96,7 +94,7 @@ module _ (index sequence : List ℕ) (number : ℕ) (p : Progress) (fits : p.fil
   abbrev lent : List ℕ
   lent = take behind (left p)
 
-  pub lent_answer : (a : DecodeAnswer) → a ≡ decode_answer index sequence number (length lent) → item_answer index sequence number p ≡ a
+  pub lent_answer : (a : Result ℕ Refusal) → a ≡ decode_answer index sequence number (length lent) → item_answer index sequence number p ≡ a
   lent_answer a e = sym (e ∙ ap (λ (l : List ℕ). decode_answer index sequence number (length l)) (part_rest p.output p.filled))
 
   pub lent_output : (after : List ℕ) → after ≡ decode_output index sequence number lent

@@ -15,10 +15,7 @@ const AMBIGUITY_VALUES: u64 = 0xfd7e_b96c_3a50_8421;
 pub fn is_alphabet(alphabet: u32) -> bool
     ensures { result ≡ is_alphabet alphabet }
 {
-    if alphabet < 1 {
-        return false;
-    }
-    alphabet <= 3
+    (1..=3).contains(&alphabet)
 }
 
 // Whether an alphabet is the amino one.
@@ -32,31 +29,16 @@ pub fn is_amino(alphabet: u32) -> bool
 pub fn code_limit(alphabet: u32) -> u8
     ensures { result ≡ code_limit alphabet }
 {
-    if alphabet == 3 {
-        return 28;
-    }
-    16
-}
-
-// The larger of two codes.
-fn larger(a: u8, b: u8) -> u8
-    ensures { result ≡ max a b }
-{
-    if a < b {
-        return b;
-    }
-    a
+    if is_amino(alphabet) { 28 } else { 16 }
 }
 
 // The largest of some codes; 0 where there is none.
 pub fn largest_code(codes: &[u8]) -> u8
     ensures { result ≡ largest_to (λ k. get_or codes.now k 0) (length codes.now) }
 {
-    let mut most: u8 = 0;
-    let mut i: usize = 0;
-    while i < codes.len() {
-        most = larger(most, codes[i]);
-        i += 1;
+    let mut most = 0;
+    for &code in codes {
+        most = most.max(code);
     }
     most
 }
@@ -65,10 +47,7 @@ pub fn largest_code(codes: &[u8]) -> u8
 pub fn ambiguity_code(v: u8) -> u8
     ensures { result ≡ ambiguity_code v }
 {
-    if v > 15 {
-        return 0;
-    }
-    AMBIGUITY_CODES[v as usize]
+    AMBIGUITY_CODES.get(usize::from(v)).copied().unwrap_or(0)
 }
 
 // The ambiguity value of a nucleic code; 0 for a number above 15.

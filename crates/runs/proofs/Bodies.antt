@@ -18,8 +18,8 @@ use Rattle.packets.proofs.Ends.{cut}
 use Rattle.runs.specs.Answers.{pack_answer}
 use Rattle.runs.specs.Bodies.{Item, body, sequences_of, AllValid, Begins, if_taken, after_each, packed_by}
 use Rattle.runs.specs.Bodies.{Buffer, call_answer, after_call, after_calls, packed_of, Holds}
-use Rattle.runs.specs.declared.PackAnswer.{PackAnswer}
-use Rattle.runs.specs.declared.PackAnswer.TheVariants.{Packed, Refused}
+use Rattle.std.specs.Prelude.{Result, Ok, Err}
+use Rattle.runs.specs.declared.RunSize.{RunSize}
 use Rattle.runs.proofs.Answers.{packed_may, pack_done, packets_kept, packets_written}
 
 -- equal beginnings: the first sequences and what follows are equal
@@ -61,12 +61,12 @@ body_injective (s ∷ ss) (t ∷ ts) v v' e =
 -- ---- a list of packing calls
 
 -- what an answer of packing says
-pub packed_means : (a : ℕ) (cs : List ℕ) (room place n l : ℕ) → pack_answer a cs room place ≡ Packed n l
-    → (n ≡ length (run a cs)) × (place + length (run a cs) ≤ room)
-packed_means a cs room place n l e =
-    let m = packed_may a cs room place n l e in
+pub packed_means : (a : ℕ) (cs : List ℕ) (room place : ℕ) (size : RunSize) → pack_answer a cs room place ≡ Ok size
+    → (size.packets ≡ length (run a cs)) × (place + length (run a cs) ≤ room)
+packed_means a cs room place size e =
+    let m = packed_may a cs room place size e in
     let f = sym (pack_done a cs room place m) ∙ e in
-    let g : n ≡ length (run a cs) = cc in
+    let g : size.packets ≡ length (run a cs) = cc in
     (g, m.fits)
 
 -- A range begins with `start` and goes on as the range `first`. With a list written behind `start` it begins with both and goes on as `first`.
@@ -85,15 +85,15 @@ length-behind first start range e h =
 
 -- Calls of any kind, over any kind of buffer: `Has packets buffer` says what a buffer has. Where a call that packs adds its run, and a refused one
 -- adds nothing, a list of calls adds the body of the sequences packed.
-module _ {B C : Type 0} (item : C → Item) (answer : B → C → PackAnswer) (after : B → C → B) (Has : List ℕ → B → Type 0)
-    (packs : (ps : List ℕ) (b : B) (c : C) (n l : ℕ) → Has ps b → answer b c ≡ Packed n l → Has (ps ++ run (item c).alphabet (item c).codes) (after b c))
-    (refuses : (ps : List ℕ) (b : B) (c : C) (r : Refusal) → Has ps b → answer b c ≡ Refused r → Has ps (after b c)) where
-  one_call : (ps : List ℕ) (b : B) (c : C) (more : List Item) (x : PackAnswer) → answer b c ≡ x → Has ps b
+module _ {B C : Type 0} (item : C → Item) (answer : B → C → Result RunSize Refusal) (after : B → C → B) (Has : List ℕ → B → Type 0)
+    (packs : (ps : List ℕ) (b : B) (c : C) (size : RunSize) → Has ps b → answer b c ≡ Ok size → Has (ps ++ run (item c).alphabet (item c).codes) (after b c))
+    (refuses : (ps : List ℕ) (b : B) (c : C) (r : Refusal) → Has ps b → answer b c ≡ Err r → Has ps (after b c)) where
+  one_call : (ps : List ℕ) (b : B) (c : C) (more : List Item) (x : Result RunSize Refusal) → answer b c ≡ x → Has ps b
       → (qs : List ℕ) × Has qs (after b c) × (ps ++ body (if_taken x (item c) more) ≡ qs ++ body more)
-  one_call ps b c more (Packed n l) e h =
+  one_call ps b c more (Ok size) e h =
       let R = run (item c).alphabet (item c).codes in
-      (ps ++ R, packs ps b c n l h e, sym (append_assoc ps R (body more)))
-  one_call ps b c more (Refused r) e h = (ps, refuses ps b c r h e, refl)
+      (ps ++ R, packs ps b c size h e, sym (append_assoc ps R (body more)))
+  one_call ps b c more (Err r) e h = (ps, refuses ps b c r h e, refl)
 
   pub calls_add : (ps : List ℕ) (b : B) (calls : List C) → Has ps b → Has (ps ++ body (packed_by item answer after b calls)) (after_each after b calls)
   calls_add ps b [] h = rw append-nil h
@@ -103,21 +103,21 @@ module _ {B C : Type 0} (item : C → Item) (answer : B → C → PackAnswer) (a
 
 -- ---- calls of `pack`
 
-call_packs : (first ps : List ℕ) (b : Buffer) (s : Item) (n l : ℕ) → Holds first ps b → call_answer b s ≡ Packed n l
+call_packs : (first ps : List ℕ) (b : Buffer) (s : Item) (size : RunSize) → Holds first ps b → call_answer b s ≡ Ok size
     → Holds first (ps ++ run s.alphabet s.codes) (after_call b s)
-call_packs first ps b s n l h e =
+call_packs first ps b s size h e =
     let R = run s.alphabet s.codes in
-    let m = packed_means s.alphabet s.codes (length b.packets) b.place n l e in
+    let m = packed_means s.alphabet s.codes (length b.packets) b.place size e in
     let len = length-behind first ps b.packets h.packets_are h.within in
     record {
       within = omega (arith, length-append ps R, h.place_is);
       place_is = rw e (omega (arith, length-append ps R, h.place_is));
       packets_are =
-          packets_written s.alphabet s.codes b.packets b.place n l e
+          packets_written s.alphabet s.codes b.packets b.place size e
           ∙ rw (h.place_is, length-append) (written_behind first ps R b.packets h.packets_are);
     }
 
-call_refuses : (first ps : List ℕ) (b : Buffer) (s : Item) (r : Refusal) → Holds first ps b → call_answer b s ≡ Refused r → Holds first ps (after_call b s)
+call_refuses : (first ps : List ℕ) (b : Buffer) (s : Item) (r : Refusal) → Holds first ps b → call_answer b s ≡ Err r → Holds first ps (after_call b s)
 call_refuses first ps b s r h e = record {
   within = h.within;
   place_is = rw (e, add-zero) h.place_is;

@@ -13,13 +13,12 @@ use Rattle.answers.specs.Limits.{bytes_fit}
 use Rattle.answers.specs.declared.Refusal.TheVariants.{NoRoom}
 use Rattle.residues.specs.Alphabets.{is_alphabet, code_limit, valid_codes}
 use Rattle.packets.specs.Packing.{run}
-use Rattle.packets.specs.Runs.{well_formed, unpacked}
 use Rattle.packets.proofs.Packing.{limit_some}
 use Rattle.packets.proofs.Rules.{formed_rules, rules_formed}
-use Rattle.runs.specs.Answers.{pack_answer, pack_number, unpack_answer}
+use Rattle.runs.specs.Answers.{packed_size, pack_answer, pack_number, unpacked_size, unpack_answer}
 use Rattle.runs.specs.Rules.{Packable, Packs, RunUnpacks, Unpacks}
-use Rattle.runs.specs.declared.PackAnswer.TheVariants as Pack
-use Rattle.runs.specs.declared.UnpackAnswer.TheVariants as Unpack
+use Rattle.std.specs.Prelude.{Ok, Err}
+use Rattle.runs.specs.declared.RunSize.{RunSize}
 use Rattle.runs.proofs.Answers.{MayPack, pack_done, packed_may, MayUnpack, unpack_as, run-done, unpacked_may}
 
 known : (a : ℕ) → is_alphabet a ≡ true → (1 ≤ a) × (a ≤ 3)
@@ -41,15 +40,15 @@ module _ (a : ℕ) (codes : List ℕ) (room place : ℕ) where
       record { small = ok.input_size; known = known_back a ok.known; valid = below_all (code_limit a) codes ok.valid; fits = r.fits }
 
   -- Where the rules hold packing answers 0, the run's packets and L.
-  pub rules_pack : Packs a codes room place → pack_answer a codes room place ≡ Pack.Packed (length (run a codes)) (length codes)
+  pub rules_pack : Packs a codes room place → pack_answer a codes room place ≡ Ok (packed_size a codes)
   rules_pack r = pack_done a codes room place (must r)
 
   -- Where packing answers 0 the rules hold.
-  pub packed_rules : (n l : ℕ) → pack_answer a codes room place ≡ Pack.Packed n l → Packs a codes room place
-  packed_rules n l e = may (packed_may a codes room place n l e)
+  pub packed_rules : (size : RunSize) → pack_answer a codes room place ≡ Ok size → Packs a codes room place
+  packed_rules size e = may (packed_may a codes room place size e)
 
   -- Where all holds but that the run fits, packing is refused for the room.
-  pub rules_full : Packable a codes → room < place + length (run a codes) → pack_answer a codes room place ≡ Pack.Refused NoRoom
+  pub rules_full : Packable a codes → room < place + length (run a codes) → pack_answer a codes room place ≡ Err NoRoom
   unfolding pack_answer
   rules_full ok h =
       rw (
@@ -81,9 +80,9 @@ module _ (a : ℕ) (packets : List ℕ) (room : ℕ) where
   run_may m = record { known = known a m.known; well_formed = formed_rules a packets m.formed; fits = m.fits }
 
   -- Where the rules hold unpacking answers 0, the run's packets and L.
-  pub rules_unpack : Unpacks a packets room → unpack_answer a packets room ≡ Unpack.Unpacked (length packets) (length (unpacked packets))
+  pub rules_unpack : Unpacks a packets room → unpack_answer a packets room ≡ Ok (unpacked_size packets)
   rules_unpack r = unpack_as a packets room r.input_size ∙ run-done a packets room (run_must r.run)
 
   -- Where unpacking answers 0 the rules hold.
-  pub unpacked_rules : (n l : ℕ) → unpack_answer a packets room ≡ Unpack.Unpacked n l → Unpacks a packets room
-  unpacked_rules n l e = let m = unpacked_may a packets room n l e in record { input_size = m.0; run = run_may m.1 }
+  pub unpacked_rules : (size : RunSize) → unpack_answer a packets room ≡ Ok size → Unpacks a packets room
+  unpacked_rules size e = let m = unpacked_may a packets room size e in record { input_size = m.0; run = run_may m.1 }

@@ -1,12 +1,13 @@
 -- A turn of a loop that packs: the next packet, and the run of the codes behind it. Assumes nothing.
 use mathlib.Core.Path.{◌≡◌, sym, ap, ◌∙◌}
 use mathlib.Core.Bool.{true}
-use mathlib.Core.List.{List, [], ◌∷◌}
+use mathlib.Core.List.{List, [], ◌∷◌, ◌++◌, append_assoc, append-nil}
 use Prim.Native.Nat.{ℕ, ◌+◌, ◌-◌, ◌%◌, ◌^◌, ◌≤◌, ◌<◌}
-use native.Mathlib.Nat.{mod-eq_of_lt}
+use native.Mathlib.Nat.{mod-eq_of_lt, zero-add}
 use native.Mathlib.Omega.{arith}
-use lib.ListN.{length, take, drop, set, length-drop}
+use lib.ListN.{length, take, drop, set, length-drop, drop_of_length-le}
 use lib.Seq.{paste, drop-drop}
+use borrow.Rule.Slice.PartMut.{put_mid, post_of}
 use Rattle.laws.specs.Writing.{written_at}
 use Rattle.laws.proofs.Parts.{part_rest}
 use Rattle.laws.proofs.Writing.{paste_whole, write_step, rest_step}
@@ -14,7 +15,7 @@ use Rattle.laws.proofs.Digits.{below-drop}
 use Rattle.residues.specs.Alphabets.{code_limit, valid_codes}
 use Rattle.residues.proofs.Alphabets.{valid-below}
 use Rattle.packets.specs.Packing.{size_of, packet_of, size, packet, run}
-use Rattle.packets.proofs.Packing.{size-inner, packet-inner, packet-below, run-last, run_more}
+use Rattle.packets.proofs.Packing.{size-some, size-inner, packet-inner, packet-below, run-last, run_more}
 
 -- what `encode` says of the codes from a place on
 module _ (a : ℕ) (codes : List ℕ) (at : ℕ) where
@@ -60,14 +61,40 @@ module _ (a : ℕ) (codes : List ℕ) (at : ℕ) where
       pub count_goes : s < length codes - at → length (run a codes) ≡ count + 1 + length (run a (drop (at + s) codes))
       count_goes h = omega (arith, ap length (run_goes h))
 
+-- ---- the codes that are left, in place of a place
+
+module _ (a : ℕ) (rest : List ℕ) (s : ℕ) (e : s ≡ size a rest) where
+  -- the packet takes all that is left
+  pub rest_ends : length rest ≤ s → run a rest ≡ packet a rest ∷ []
+  rest_ends h = run-last a rest (omega arith)
+
+  -- it doesn't: the run goes on behind what it takes, and that is less
+  pub rest_goes : s < length rest → run a rest ≡ packet a rest ∷ run a (take (length rest - s) (drop s rest))
+  rest_goes h = rw (part_rest rest s, e) (run_more a rest (omega arith))
+
+  pub rest-less : s < length rest → length (take (length rest - s) (drop s rest)) < length rest
+  rest-less h = rw (part_rest rest s) (omega (arith, size-some a rest (omega arith), length-drop s rest))
+
+-- what `search` and `grind` are handed to take turns
+pub ruleset turns = (rest_ends, rest_goes, rest-less)
+
+pub rest_valid : (a : ℕ) (rest : List ℕ) (s : ℕ) → valid_codes a rest ≡ true → valid_codes a (take (length rest - s) (drop s rest)) ≡ true
+rest_valid a rest s v = rw (part_rest rest s) (below-drop (code_limit a) s rest v)
+
+-- what is written for it
+pub rest_packet : (a : ℕ) (rest : List ℕ) (p : ℕ) → valid_codes a rest ≡ true → p ≡ packet a rest % 2 ^ 32 → p ≡ packet a rest
+rest_packet a rest p v e = e ∙ mod-eq_of_lt (packet-below a rest (length rest) (valid-below a rest v))
+
 -- the packets written so far: R is the run, d the buffer at first
-module _ (R d : List ℕ) (place count : ℕ) (out : List ℕ) (so_far : out ≡ paste d place R count) (p : ℕ) (more : List ℕ)
-    (rest : drop count R ≡ p ∷ more) (room : place + length R ≤ length d) where
-  pub within : place + count < length d
+module _ (R d : List ℕ) (count : ℕ) (out : List ℕ) (so_far : out ≡ paste d 0 R count) (p : ℕ) (more : List ℕ)
+    (rest : drop count R ≡ p ∷ more) (room : length R ≤ length d) where
+  pub within : count < length d
   within = omega (arith, length-drop count R, ap length rest)
 
-  pub store_goes : set out (place + count) p ≡ paste d place R (count + 1)
-  store_goes = ap (λ (x : List ℕ). set x (place + count) p) so_far ∙ write_step d place R count p more within rest
+  pub store_goes : set out count p ≡ paste d 0 R (count + 1)
+  store_goes =
+      let z : count ≡ 0 + count = omega arith in
+      ap (λ (k : ℕ). set out k p) z ∙ ap (λ (x : List ℕ). set x (0 + count) p) so_far ∙ write_step d 0 R count p more (omega (arith, within)) rest
 
   pub store_rest : drop (count + 1) R ≡ more
   store_rest = rest_step R count p more rest
@@ -75,5 +102,18 @@ module _ (R d : List ℕ) (place count : ℕ) (out : List ℕ) (so_far : out ≡
   pub store_count : more ≡ [] → count + 1 ≡ length R
   store_count e = omega (arith, length-drop count R, ap length rest, ap length e)
 
-  pub store_ends : more ≡ [] → set out (place + count) p ≡ written_at place R d
-  store_ends e = store_goes ∙ (rw (store_count e) (paste_whole place R d))
+  pub store_ends : more ≡ [] → set out count p ≡ written_at 0 R d
+  store_ends e = store_goes ∙ (rw (store_count e) (paste_whole 0 R d))
+
+-- written at the start of what follows a place
+pub written_rest : (place : ℕ) (new old : List ℕ) → take place old ++ written_at 0 new (drop place old) ≡ written_at place new old
+written_rest place new old =
+    let e : drop (0 + length new) (drop place old) ≡ drop (place + length new) old = rw (zero-add (length new)) (drop-drop (length new) place old) in
+    ap (λ (l : List ℕ). take place old ++ (new ++ l)) e ∙ sym (append_assoc (take place old) new (drop (place + length new) old))
+
+-- the same as the code has it, which lends what follows the place: ys is what was lent, after
+pub part_written : (place : ℕ) (new old ys : List ℕ) → place + length new ≤ length old → ys ≡ written_at 0 new (take (length old - place) (drop place old))
+    → put_mid place (length old - place) old ys ≡ written_at place new old
+part_written place new old ys h y =
+    let e : post_of place (length old - place) old ≡ [] = drop_of_length-le (drop place old) {i = length old - place} (omega (arith, length-drop place old)) in
+    rw (y, part_rest old place, e, append-nil) (written_rest place new old)

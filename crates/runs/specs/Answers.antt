@@ -1,6 +1,6 @@
 -- What packing and unpacking answer, and what the lent range holds after (document 01, "Packets").
 -- Assumes nothing.
-use Rattle.std.specs.Prelude.{Bool, List, [], ◌∷◌, ℕ, ◌+◌, leb, length}
+use Rattle.std.specs.Prelude.{Bool, Result, Ok, Err, List, [], ◌∷◌, ℕ, ◌+◌, leb, length}
 use Rattle.laws.specs.Rules.{Rule, ask, verdict}
 use Rattle.laws.specs.Writing.{written_at}
 use Rattle.answers.specs.Numbers.{number_of}
@@ -10,10 +10,7 @@ use Rattle.answers.specs.declared.Refusal.TheVariants.{TooLarge, WrongKind, BadC
 use Rattle.residues.specs.Alphabets.{is_alphabet, valid_codes}
 use Rattle.packets.specs.Packing.{run}
 use Rattle.packets.specs.Runs.{well_formed, unpacked}
-use Rattle.runs.specs.declared.PackAnswer.{PackAnswer}
-use Rattle.runs.specs.declared.PackAnswer.TheVariants.{Packed, Refused as PackRefused}
-use Rattle.runs.specs.declared.UnpackAnswer.{UnpackAnswer}
-use Rattle.runs.specs.declared.UnpackAnswer.TheVariants.{Unpacked, Refused as UnpackRefused}
+use Rattle.runs.specs.declared.RunSize.{RunSize}
 
 -- ---- packing
 
@@ -31,22 +28,25 @@ pack_rules alphabet codes room place =
     ∷ []
 
 -- Packing returns the run's packets and L.
-unfoldable pub pack_answer : ℕ → List ℕ → ℕ → ℕ → PackAnswer
-pack_answer alphabet codes room place = verdict PackRefused (Packed (length (run alphabet codes)) (length codes)) (pack_rules alphabet codes room place)
+abbrev pub packed_size : ℕ → List ℕ → RunSize
+packed_size alphabet codes = record { packets = length (run alphabet codes); residues = length codes }
+
+unfoldable pub pack_answer : ℕ → List ℕ → ℕ → ℕ → Result RunSize Refusal
+pack_answer alphabet codes room place = verdict Err (Ok (packed_size alphabet codes)) (pack_rules alphabet codes room place)
 
 -- The answer number, 0 on success, and the values.
-abbrev pub pack_number : PackAnswer → ℕ
-pack_number (Packed packets residues) = 0
-pack_number (PackRefused r) = number_of r
+abbrev pub pack_number : Result RunSize Refusal → ℕ
+pack_number (Ok size) = 0
+pack_number (Err r) = number_of r
 
-abbrev pub pack_values : PackAnswer → List ℕ
-pack_values (Packed packets residues) = packets ∷ residues ∷ []
-pack_values (PackRefused r) = []
+abbrev pub pack_values : Result RunSize Refusal → List ℕ
+pack_values (Ok size) = size.packets ∷ size.residues ∷ []
+pack_values (Err r) = []
 
 -- What a range holds after packing: a refusal writes nowhere.
-abbrev pub if_packed : PackAnswer → List ℕ → List ℕ → List ℕ
-if_packed (Packed packets residues) new old = new
-if_packed (PackRefused r) new old = old
+abbrev pub if_packed : Result RunSize Refusal → List ℕ → List ℕ → List ℕ
+if_packed (Ok size) new old = new
+if_packed (Err r) new old = old
 
 -- Packing appends one run at a place in a lent packet buffer; every other packet stays.
 unfoldable pub packets_after : ℕ → List ℕ → List ℕ → ℕ → List ℕ
@@ -68,25 +68,28 @@ abbrev pub unpack_rules : ℕ → List ℕ → ℕ → List (Rule Refusal)
 unpack_rules alphabet packets room = ask (packets_fit packets) TooLarge ∷ run_rules alphabet packets room
 
 -- Unpacking returns the run's packets and L.
-abbrev pub unpacked_by : List (Rule Refusal) → List ℕ → UnpackAnswer
-unpacked_by rules packets = verdict UnpackRefused (Unpacked (length packets) (length (unpacked packets))) rules
+abbrev pub unpacked_size : List ℕ → RunSize
+unpacked_size packets = record { packets = length packets; residues = length (unpacked packets) }
 
-unfoldable pub unpack_answer : ℕ → List ℕ → ℕ → UnpackAnswer
+abbrev pub unpacked_by : List (Rule Refusal) → List ℕ → Result RunSize Refusal
+unpacked_by rules packets = verdict Err (Ok (unpacked_size packets)) rules
+
+unfoldable pub unpack_answer : ℕ → List ℕ → ℕ → Result RunSize Refusal
 unpack_answer alphabet packets room = unpacked_by (unpack_rules alphabet packets room) packets
 
 -- The answer number, 0 on success, and the values.
-abbrev pub unpack_number : UnpackAnswer → ℕ
-unpack_number (Unpacked packets residues) = 0
-unpack_number (UnpackRefused r) = number_of r
+abbrev pub unpack_number : Result RunSize Refusal → ℕ
+unpack_number (Ok size) = 0
+unpack_number (Err r) = number_of r
 
-abbrev pub unpack_values : UnpackAnswer → List ℕ
-unpack_values (Unpacked packets residues) = packets ∷ residues ∷ []
-unpack_values (UnpackRefused r) = []
+abbrev pub unpack_values : Result RunSize Refusal → List ℕ
+unpack_values (Ok size) = size.packets ∷ size.residues ∷ []
+unpack_values (Err r) = []
 
 -- What the output holds after unpacking: the residues first, and nothing else is written; a refusal writes nowhere.
-abbrev pub if_unpacked : UnpackAnswer → List ℕ → List ℕ → List ℕ
-if_unpacked (Unpacked packets residues) codes out = written_at 0 codes out
-if_unpacked (UnpackRefused r) codes out = out
+abbrev pub if_unpacked : Result RunSize Refusal → List ℕ → List ℕ → List ℕ
+if_unpacked (Ok size) codes out = written_at 0 codes out
+if_unpacked (Err r) codes out = out
 
 -- Unpacking writes the first L bytes of its output.
 unfoldable pub codes_after : ℕ → List ℕ → List ℕ → List ℕ

@@ -1,12 +1,12 @@
 -- Bodies of lists of sequences, and lists of packing calls (document 01, "Packets").
 -- Assumes nothing.
-use Rattle.std.specs.Prelude.{◌≡◌, true, List, [], ◌∷◌, ◌++◌, ℕ, ◌+◌, ◌≤◌, ℤ, length, drop}
+use Rattle.std.specs.Prelude.{◌≡◌, true, Result, Ok, Err, List, [], ◌∷◌, ◌++◌, ℕ, ◌+◌, ◌≤◌, ℤ, length, drop}
+use Rattle.answers.specs.declared.Refusal.{Refusal}
 use Rattle.residues.specs.Alphabets.{valid_codes}
 use Rattle.packets.specs.Packing.{run}
 use Rattle.packets.specs.Ends.{last_place}
 use Rattle.runs.specs.Answers.{pack_answer, packets_after}
-use Rattle.runs.specs.declared.PackAnswer.{PackAnswer}
-use Rattle.runs.specs.declared.PackAnswer.TheVariants.{Packed, Refused}
+use Rattle.runs.specs.declared.RunSize.{RunSize}
 
 -- A sequence with its alphabet.
 pub record Item : Type 0 where
@@ -50,14 +50,14 @@ Begins {A} first second = (rest : List A) × (first ++ rest ≡ second)
 -- ---- packing calls, one after another: of any kind C, over buffers of any kind B
 
 -- The packets that a call returned; none where it was refused.
-abbrev pub taken : PackAnswer → ℕ
-taken (Packed packets residues) = packets
-taken (Refused r) = 0
+abbrev pub taken : Result RunSize Refusal → ℕ
+taken (Ok size) = size.packets
+taken (Err r) = 0
 
 -- The sequence before others, where the call packed it.
-abbrev pub if_taken : PackAnswer → Item → List Item → List Item
-if_taken (Packed packets residues) s items = s ∷ items
-if_taken (Refused r) s items = items
+abbrev pub if_taken : Result RunSize Refusal → Item → List Item → List Item
+if_taken (Ok size) s items = s ∷ items
+if_taken (Err r) s items = items
 
 -- Each call gets the buffer as the call before left it.
 abbrev pub after_each : {B C : Type 0} → (B → C → B) → B → List C → B
@@ -65,7 +65,7 @@ after_each after buffer [] = buffer
 after_each after buffer (call ∷ calls) = after_each after (after buffer call) calls
 
 -- The sequences that the calls packed, by the answer to each.
-abbrev pub packed_by : {B C : Type 0} → (C → Item) → (B → C → PackAnswer) → (B → C → B) → B → List C → List Item
+abbrev pub packed_by : {B C : Type 0} → (C → Item) → (B → C → Result RunSize Refusal) → (B → C → B) → B → List C → List Item
 packed_by item answer after buffer [] = []
 packed_by item answer after buffer (call ∷ calls) =
     if_taken (answer buffer call) (item call) (packed_by item answer after (after buffer call) calls)
@@ -77,7 +77,7 @@ pub record Buffer : Type 0 where
   pub packets : List ℕ
   pub place : ℕ
 
-abbrev pub call_answer : Buffer → Item → PackAnswer
+abbrev pub call_answer : Buffer → Item → Result RunSize Refusal
 call_answer buffer s = pack_answer s.alphabet s.codes (length buffer.packets) buffer.place
 
 -- The buffer after a call; the next place is the call's place plus the packets it returned, or the same place if it was refused.

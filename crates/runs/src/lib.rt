@@ -10,209 +10,189 @@ ghost use Rattle.packets.specs.Runs.{well_formed, unpacked};
 ghost use Rattle.packets.specs.Reading.{inner_to, codes_to, run_length};
 ghost use Rattle.runs.specs.Answers.{run_fits, pack_rules, pack_answer, packets_after, unpack_answer, codes_after};
 
-use answers::{Checked, Refusal};
-use packets::{PacketPos, RunLength};
+use answers::Refusal;
+use packets::PacketPos;
 
-// What packing answers: the run's packets and L, or why it refuses.
+// How large a run is: its packets, and L.
 #[derive(Clone, Copy)]
-pub enum PackAnswer {
-    Packed { packets: u64, residues: u64 },
-    Refused(Refusal),
-}
-
-// What unpacking answers: the run's packets and L, or why it refuses.
-#[derive(Clone, Copy)]
-pub enum UnpackAnswer {
-    Unpacked { packets: u64, residues: u64 },
-    Refused(Refusal),
+pub struct RunSize {
+    pub packets: u64,
+    pub residues: u64,
 }
 
 // Counts the packets of a run, packet by packet.
+#[tactic(auto, using(crate::proofs::Turns::turns))]
 fn count_run(alphabet: u32, codes: &[u8]) -> usize
     ensures { result ≡ length (run alphabet codes.now) }
 {
-    let mut at: usize = 0;
+    let mut rest = codes;
     let mut count: usize = 0;
     loop {
-        let left = codes.len() - at;
-        let next = packets::encode(alphabet, &codes[at..], left);
-        let size = next.size;
+        let next = packets::encode(alphabet, rest, rest.len());
         count += 1;
-        if left <= size {
+        if rest.len() <= next.size {
             return count;
         }
-        at += size;
+        rest = &rest[next.size..];
     }
 }
 
 // The number of packets of a run.
+#[tactic(auto, using(packets::proofs::Lengths::run_amino))]
 fn run_length(alphabet: u32, codes: &[u8]) -> usize
     ensures { result ≡ length (run alphabet codes.now) }
 {
-    if alphabet == 3 {
-        return packets::sixes_of(codes.len());
+    if residues::is_amino(alphabet) {
+        packets::sixes_of(codes.len())
+    } else {
+        count_run(alphabet, codes)
     }
-    count_run(alphabet, codes)
 }
 
 // Whether a buffer of so many packets has room for a run from its place on.
+#[tactic(auto, using(packets::proofs::Lengths::at_most))]
 fn run_fits(alphabet: u32, codes: &[u8], room: u64, place: PacketPos) -> bool
     ensures { result ≡ run_fits alphabet codes.now room place.0 }
 {
-    let at = place.0;
-    if room < at {
+    let Some(left) = room.checked_sub(place.0) else {
         return false;
-    }
-    let left = room - at;
-    if packets::sixes_of(codes.len()) as u64 <= left {
-        return true;
-    }
-    run_length(alphabet, codes) as u64 <= left
+    };
+    packets::sixes_of(codes.len()) as u64 <= left || run_length(alphabet, codes) as u64 <= left
 }
 
 // The rules of packing, with so many packets of room; nothing is written.
-pub fn check_pack(alphabet: u32, codes: &[u8], room: u64, place: PacketPos) -> Checked
+pub fn check_pack(alphabet: u32, codes: &[u8], room: u64, place: PacketPos) -> Result<(), Refusal>
     ensures { result ≡ checked_by (pack_rules alphabet codes.now room place.0) }
 {
     if codes.len() > answers::MOST_BYTES {
-        return Checked::Refused(Refusal::TooLarge);
+        return Err(Refusal::TooLarge);
     }
     if !residues::is_alphabet(alphabet) {
-        return Checked::Refused(Refusal::WrongKind);
+        return Err(Refusal::WrongKind);
     }
     if !packets::valid_codes(alphabet, codes) {
-        return Checked::Refused(Refusal::BadCode);
+        return Err(Refusal::BadCode);
     }
     if !run_fits(alphabet, codes, room, place) {
-        return Checked::Refused(Refusal::NoRoom);
+        return Err(Refusal::NoRoom);
     }
-    Checked::Passed
+    Ok(())
 }
 
 // What packing answers with so many packets of room; nothing is written.
-pub fn pack_answer(alphabet: u32, codes: &[u8], room: u64, place: PacketPos) -> PackAnswer
+#[tactic(auto, unfolding(crate::specs::Answers::pack_answer))]
+pub fn pack_answer(
+    alphabet: u32,
+    codes: &[u8],
+    room: u64,
+    place: PacketPos,
+) -> Result<RunSize, Refusal>
     ensures { result ≡ pack_answer alphabet codes.now room place.0 }
 {
-    match check_pack(alphabet, codes, room, place) {
-        Checked::Refused(r) => PackAnswer::Refused(r),
-        Checked::Passed => {
-            let count = run_length(alphabet, codes);
-            PackAnswer::Packed {
-                packets: count as u64,
-                residues: codes.len() as u64,
-            }
-        }
-    }
+    check_pack(alphabet, codes, room, place)?;
+    let count = run_length(alphabet, codes);
+    Ok(RunSize {
+        packets: count as u64,
+        residues: codes.len() as u64,
+    })
 }
 
-// Writes a run into a buffer from a place on.
-fn write_run(alphabet: u32, codes: &[u8], buffer: &mut [u32], place: PacketPos) -> usize
-    requires { (valid_codes alphabet codes.now ≡ true) × (place.0 + length (run alphabet codes.now) ≤ length buffer.old) }
+// Writes a run at the start of a buffer.
+fn write_run(alphabet: u32, codes: &[u8], buffer: &mut [u32]) -> usize
+    requires { (valid_codes alphabet codes.now ≡ true) × (length (run alphabet codes.now) ≤ length buffer.old) }
     ensures count { result ≡ length (run alphabet codes.now) }
-    ensures packets { buffer.new ≡ written_at place.0 (run alphabet codes.now) buffer.old }
+    ensures packets { buffer.new ≡ written_at 0 (run alphabet codes.now) buffer.old }
 {
-    let first = place.0 as usize;
-    let mut at: usize = 0;
+    let mut rest = codes;
     let mut count: usize = 0;
     loop {
-        let left = codes.len() - at;
-        let next = packets::encode(alphabet, &codes[at..], left);
-        let size = next.size;
-        buffer[first + count] = next.packet;
+        let next = packets::encode(alphabet, rest, rest.len());
+        buffer[count] = next.packet;
         count += 1;
-        if left <= size {
+        if rest.len() <= next.size {
             return count;
         }
-        at += size;
+        rest = &rest[next.size..];
     }
 }
 
 // Packs a sequence: appends its run at a place of a packet buffer.
-pub fn pack(alphabet: u32, codes: &[u8], buffer: &mut [u32], place: PacketPos) -> PackAnswer
+pub fn pack(
+    alphabet: u32,
+    codes: &[u8],
+    buffer: &mut [u32],
+    place: PacketPos,
+) -> Result<RunSize, Refusal>
     ensures answer { result ≡ pack_answer alphabet codes.now (length buffer.old) place.0 }
     ensures packets { buffer.new ≡ packets_after alphabet codes.now buffer.old place.0 }
 {
-    match check_pack(alphabet, codes, buffer.len() as u64, place) {
-        Checked::Refused(r) => PackAnswer::Refused(r),
-        Checked::Passed => {
-            let count = write_run(alphabet, codes, buffer, place);
-            PackAnswer::Packed {
-                packets: count as u64,
-                residues: codes.len() as u64,
-            }
-        }
-    }
+    check_pack(alphabet, codes, buffer.len() as u64, place)?;
+    let count = write_run(alphabet, codes, &mut buffer[place.0 as usize..]);
+    Ok(RunSize {
+        packets: count as u64,
+        residues: codes.len() as u64,
+    })
 }
 
-// The faults of the first packets, put together: 0 where each may stand in a run before its last. No packet ends the loop early, so that
-// the compiler tests several at once.
-fn inner_faults(alphabet: u32, source: &[u32], count: usize) -> u32
-    requires { count ≤ length source.now }
-    ensures { eqb result 0 ≡ inner_to alphabet source.now count }
+// The faults of packets, put together: 0 where each may stand in a run before its last. No packet ends the loop early, so that the compiler
+// tests several at once.
+#[tactic(auto, using(packets::proofs::Reading::turns))]
+fn inner_faults(alphabet: u32, source: &[u32]) -> u32
+    ensures { eqb result 0 ≡ inner_to alphabet source.now (length source.now) }
 {
     let mut faults: u32 = 0;
-    let mut i: usize = 0;
-    while i < count {
-        faults = faults | packets::inner_fault(alphabet, source[i]);
-        i += 1;
+    for packet in source {
+        faults |= packets::inner_fault(alphabet, *packet);
     }
     faults
 }
 
-// The number of codes of the first packets.
-fn count_codes(source: &[u32], count: usize) -> usize
-    requires { (count ≤ length source.now) × (count ≤ 536870912) }
-    ensures { result ≡ codes_to source.now count }
+// The number of codes of packets.
+#[tactic(auto, using(packets::proofs::Reading::turns))]
+fn count_codes(source: &[u32]) -> usize
+    requires { length source.now ≤ 536870912 }
+    ensures { result ≡ codes_to source.now (length source.now) }
 {
     let mut total: usize = 0;
-    let mut i: usize = 0;
-    while i < count {
-        total += packets::code_count(source[i]);
-        i += 1;
+    for packet in source {
+        total += packets::code_count(*packet);
     }
     total
 }
 
 // Reads packets as a run.
-fn read_run(alphabet: u32, source: &[u32]) -> RunLength
+fn read_run(alphabet: u32, source: &[u32]) -> Option<usize>
     requires { length source.now ≤ 536870912 }
     ensures { result ≡ run_length alphabet source.now }
 {
-    let count = source.len();
-    if count == 0 {
-        return RunLength::NoRun;
+    let (last, before) = source.split_last()?;
+    if inner_faults(alphabet, before) != 0
+        || !packets::is_last(alphabet, before.is_empty(), *last)
+    {
+        return None;
     }
-    let last = count - 1;
-    if inner_faults(alphabet, source, last) != 0 {
-        return RunLength::NoRun;
-    }
-    let packet = source[last];
-    if !packets::is_last(alphabet, last == 0, packet) {
-        return RunLength::NoRun;
-    }
-    let before = count_codes(source, last);
-    RunLength::Residues(before + packets::residue_count(packet))
+    Some(count_codes(before) + packets::residue_count(*last))
 }
 
 // What unpacking answers with so many bytes of room; nothing is written.
-fn unpack_answer(alphabet: u32, source: &[u32], room: usize) -> UnpackAnswer
+#[tactic(auto, using(packets::proofs::Reading::reads), unfolding(crate::specs::Answers::unpack_answer))]
+fn unpack_answer(alphabet: u32, source: &[u32], room: usize) -> Result<RunSize, Refusal>
     ensures { result ≡ unpack_answer alphabet source.now room }
 {
     if source.len() > answers::MOST_PACKETS {
-        return UnpackAnswer::Refused(Refusal::TooLarge);
+        return Err(Refusal::TooLarge);
     }
     if !residues::is_alphabet(alphabet) {
-        return UnpackAnswer::Refused(Refusal::WrongKind);
+        return Err(Refusal::WrongKind);
     }
-    let RunLength::Residues(total) = read_run(alphabet, source) else {
-        return UnpackAnswer::Refused(Refusal::BadRun);
-    };
+    let total = read_run(alphabet, source).ok_or(Refusal::BadRun)?;
     if room < total {
-        return UnpackAnswer::Refused(Refusal::NoRoom);
-    }
-    UnpackAnswer::Unpacked {
-        packets: source.len() as u64,
-        residues: total as u64,
+        Err(Refusal::NoRoom)
+    } else {
+        Ok(RunSize {
+            packets: source.len() as u64,
+            residues: total as u64,
+        })
     }
 }
 
@@ -223,32 +203,20 @@ fn write_residues(alphabet: u32, source: &[u32], out: &mut [u8])
 {
     let last = source.len() - 1;
     let mut at: usize = 0;
-    let mut i: usize = 0;
-    while i < last {
-        let packet = source[i];
-        packets::decode_codes(packet, out, at);
-        at += packets::code_count(packet);
-        i += 1;
+    for packet in &source[..last] {
+        packets::decode_codes(*packet, out, at);
+        at += packets::code_count(*packet);
     }
     packets::decode(source[last], out, at);
 }
 
 // Unpacks a run: writes its residues at the start of the output.
-pub fn unpack(alphabet: u32, source: &[u32], out: &mut [u8]) -> UnpackAnswer
+#[tactic(auto, using(crate::proofs::Answers::unpacked_may, crate::proofs::Answers::codes_kept, crate::proofs::Answers::codes_written))]
+pub fn unpack(alphabet: u32, source: &[u32], out: &mut [u8]) -> Result<RunSize, Refusal>
     ensures answer { result ≡ unpack_answer alphabet source.now (length out.old) }
     ensures codes { out.new ≡ codes_after alphabet source.now out.old }
 {
-    match unpack_answer(alphabet, source, out.len()) {
-        UnpackAnswer::Refused(r) => UnpackAnswer::Refused(r),
-        UnpackAnswer::Unpacked {
-            packets: count,
-            residues: total,
-        } => {
-            write_residues(alphabet, source, out);
-            UnpackAnswer::Unpacked {
-                packets: count,
-                residues: total,
-            }
-        }
-    }
+    let size = unpack_answer(alphabet, source, out.len())?;
+    write_residues(alphabet, source, out);
+    Ok(size)
 }

@@ -62,7 +62,7 @@ little_join (suc w) v t m n e h =
     little-cons t (w + v) x (omega arith) ∙ rw (low, high, little_join w v (w + v) (m / 256) n refl small)
 
 -- the bases of a byte are four of the residues from a start on
-four_from_lem : (sequence : List ℕ) (start at m : ℕ) (k : ℕ → ℕ) → at ≡ start + m → ((j : ℕ) → k j ≡ 4 * m + j)
+pub four_from_lem : (sequence : List ℕ) (start at m : ℕ) (k : ℕ → ℕ) → at ≡ start + m → ((j : ℕ) → k j ≡ 4 * m + j)
     → bases_of (get_or sequence at 0) ≡ list_to (λ i. base_at sequence start (k i)) 4
 unfolding digits
 four_from_lem sequence start at m k e h =

@@ -1,7 +1,6 @@
 -- Residues stored a block at a time, where a block may lie over the end of the one before; and the code of a protein byte, mended.
 -- Assumes nothing.
 use mathlib.Core.Path.{◌≡◌, refl, sym, ap, ◌∙◌}
-use mathlib.Core.Bool.{Bool, true}
 use mathlib.Core.List.{List, [], ◌∷◌, ◌++◌, append-nil}
 use mathlib.Core.Logic.{⊎_elim}
 use Prim.Native.Nat.{ℕ, zero, suc, ◌+◌, ◌-◌, ◌≤◌, ◌<◌}
@@ -11,7 +10,7 @@ use borrow.Author.Tests.{eqb-true}
 use lib.Dec.{eqb}
 use lib.ListN.{length, take, drop, set}
 use lib.Seq.{take-append-le, take-length, drop-length}
-use Rattle.laws.specs.Places.{every, list_to}
+use Rattle.laws.specs.Places.{list_to}
 use Rattle.laws.specs.Writing.{written_at}
 use Rattle.laws.proofs.Places.{every_at, length-list_to, list_to-append}
 use Rattle.laws.proofs.Storing.{store_front, written_start}
@@ -36,7 +35,7 @@ code_mended v h = eqb-true _ _ (every_at (λ (v : ℕ). eqb (protein_code v + lo
 
 module _ (f : ℕ → ℕ) where
   -- the first of a list
-  take-list_to : (k n : ℕ) → k ≤ n → take k (list_to f n) ≡ list_to f k
+  pub take-list_to : (k n : ℕ) → k ≤ n → take k (list_to f n) ≡ list_to f k
   take-list_to k zero h = let e : k ≡ 0 = omega arith in rw e
   take-list_to k (suc n) h =
       ⊎_elim

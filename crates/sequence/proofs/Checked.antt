@@ -9,6 +9,7 @@ use borrow.Author.Tests.{leb-true, leb-false, le-leb, lt-ltb}
 use lib.Dec.{leb}
 use lib.IntN.{pos}
 use lib.ListN.{get_or}
+use Rattle.std.specs.Prelude.{Result, Ok, Err}
 use Rattle.laws.specs.Places.{every}
 use Rattle.laws.specs.Rules.{Rule, verdict, AllHold}
 use Rattle.laws.proofs.Places.{every-all}
@@ -16,14 +17,11 @@ use Rattle.laws.proofs.Rules.{verdict-passes, verdict-append, hold-append}
 use Rattle.laws.proofs.Tests.{bool_cases}
 use Rattle.answers.specs.declared.Refusal.{Refusal}
 use Rattle.answers.specs.declared.Refusal.TheVariants.{BadProteinByte, BadAmbiguity, NoRoom}
-use Rattle.volume.specs.declared.IndexAnswer.TheVariants as Index
 use Rattle.volume.specs.Index.{stated_type, is_protein, sequences, read_rules, index_of}
 use Rattle.volume.specs.Tables.{sequence_start, protein_length, dna_end, dna_length, sequence_length, protein_offset_rules, protein_separator_rules, dna_offset_rules}
 use Rattle.volume.specs.Volume.{volume_answer, volume_number}
 use Rattle.volume.proofs.Exact as Exact
 use Rattle.volume.proofs.Named.{SizeTests, size_tests}
-use Rattle.sequence.specs.declared.DecodeAnswer.{DecodeAnswer}
-use Rattle.sequence.specs.declared.DecodeAnswer.TheVariants.{Decoded, Refused}
 use Rattle.sequence.specs.Checked.{OnlyResidues}
 use Rattle.sequence.specs.Corrections.{is_table, entry_width, entry_count, entry_fits, range_rules}
 use Rattle.sequence.specs.Sequence.{range_end, is_protein_byte, protein_entry_rules, protein_byte_rules, dna_entry_rules}
@@ -35,27 +33,27 @@ use Rattle.sequence.proofs.Passed.{protein-entries, dna-entries}
 
 -- the room decides last
 module _ (l room : ℕ) where
-  abbrev last : DecodeAnswer
-  last = verdict Refused (Decoded l) (room_rules l room)
+  abbrev last : Result ℕ Refusal
+  last = verdict Err (Ok l) (room_rules l room)
 
-  room_decides : (b : Bool) → leb l room ≡ b → (last ≡ Decoded l) ⊎ ((last ≡ Refused NoRoom) × (room < l))
+  room_decides : (b : Bool) → leb l room ≡ b → (last ≡ Ok l) ⊎ ((last ≡ Err NoRoom) × (room < l))
   room_decides true e = inl (rw e)
   room_decides false e = inr (rw e, leb-false l room e)
 
   -- two tests with one refusal before it
-  decided : (x : DecodeAnswer) (a b : Bool) (wrong : Refusal) → x ≡ cond a (cond b last (Refused wrong)) (Refused wrong)
-      → (x ≡ Decoded l) ⊎ ((x ≡ Refused wrong) ⊎ ((x ≡ Refused NoRoom) × (room < l)))
+  decided : (x : Result ℕ Refusal) (a b : Bool) (wrong : Refusal) → x ≡ cond a (cond b last (Err wrong)) (Err wrong)
+      → (x ≡ Ok l) ⊎ ((x ≡ Err wrong) ⊎ ((x ≡ Err NoRoom) × (room < l)))
   decided x true true wrong e = ⊎_elim (λ p. inl (e ∙ p)) (λ q. inr (inr (e ∙ q.0, q.1))) (room_decides (leb l room) refl)
   decided x true false wrong e = inr (inl e)
   decided x false b wrong e = inr (inl e)
 
   -- the rules of the entries hold: what is asked after them decides
   entries-hold : (entries rest : List (Rule Refusal)) → AllHold entries
-      → verdict Refused (Decoded l) ((entries ++ rest) ++ room_rules l room) ≡ verdict Refused last rest
+      → verdict Err (Ok l) ((entries ++ rest) ++ room_rules l room) ≡ verdict Err last rest
   entries-hold entries rest h =
-      verdict-append Refused (Decoded l) (entries ++ rest) (room_rules l room)
-      ∙ verdict-append Refused last entries rest
-      ∙ verdict-passes Refused (verdict Refused last rest) entries h
+      verdict-append Err (Ok l) (entries ++ rest) (room_rules l room)
+      ∙ verdict-append Err last entries rest
+      ∙ verdict-passes Err (verdict Err last rest) entries h
 
 module _ (index sequence header : List ℕ) (passes : volume_number (volume_answer index sequence header) ≡ 0) (i : ℕ) (below : i < sequences index)
     (room : ℕ) where
@@ -82,13 +80,13 @@ module _ (index sequence header : List ℕ) (passes : volume_number (volume_answ
   own_decides : own_answer index sequence i room ≡ decode_answer index sequence i room
   own_decides =
       decode_read index sequence i room (leb-true _ _ sizes.sequence_fits) (index_of index)
-      (verdict-passes Index.Refused (Index.Read (index_of index)) (read_rules index) (sizes.index_fits, parts.index_holds))
+      (verdict-passes Err (Ok (index_of index)) (read_rules index) (sizes.index_fits, parts.index_holds))
 
   protein_only : is_protein index ≡ true → OnlyResidues index sequence i room
   protein_only t =
       let rest = protein_byte_rules sequence (sequence_start index i) (protein_length index i) in
       let h = protein-holds t in
-      let e : decode_answer index sequence i room ≡ verdict Refused (last (protein_length index i) room) rest =
+      let e : decode_answer index sequence i room ≡ verdict Err (last (protein_length index i) room) rest =
       sym own_decides
       ∙ sym (own_protein index sequence i room below t)
       ∙ entries-hold (protein_length index i) room (protein_entry_rules index sequence i) rest h in
@@ -103,7 +101,7 @@ module _ (index sequence header : List ℕ) (passes : volume_number (volume_answ
       let end = range_end index i in
       let rest = range_rules sequence place end l in
       let h = dna-holds t in
-      let e : decode_answer index sequence i room ≡ verdict Refused (last l room) rest =
+      let e : decode_answer index sequence i room ≡ verdict Err (last l room) rest =
       sym own_decides ∙ sym (own_dna index sequence i room below t) ∙ entries-hold l room (dna_entry_rules index sequence i) rest h in
       let fit = every (entry_fits sequence (place + 4) (entry_width sequence place) l) (entry_count sequence place end) in
       let d = decided l room (decode_answer index sequence i room) (is_table sequence place end) fit BadAmbiguity e in

@@ -18,11 +18,13 @@ use Rattle.laws.proofs.Tests.{bool_cases, both_pass}
 use Rattle.laws.proofs.Writing.{length_written}
 use Rattle.residues.specs.Tables.{ambiguity_code}
 use Rattle.sequence.specs.declared.Correction.{Correction}
+use Rattle.sequence.specs.declared.RangeEntries.{RangeEntries}
+use Rattle.sequence.specs.Tabled.{range_width, range_entries}
 use Rattle.sequence.specs.Corrections.{correction_at, correction_end, corrections_at, range_corrections, painted, corrected, covers, corrected_at}
 use Rattle.sequence.specs.Corrections.{correction_in, Apart, EndWithin, entry_fits, entry_width, entry_count, range_rules}
 use Rattle.sequence.specs.Bases.{base_at, two_bit_residues}
 use Rattle.sequence.specs.Sequence.{dna_residues}
-use Rattle.sequence.proofs.Ranges.{ends-within, starts_after}
+use Rattle.sequence.proofs.Ranges.{by_width, ends-within, starts_after}
 
 -- ---- one correction
 
@@ -159,12 +161,15 @@ module _ (sequence : List ℕ) (start place end l : ℕ) (h : AllHold (range_rul
   ends_fit = rw length-bases (stated_within sequence (place + 4) (entry_width sequence place) (entry_count sequence place end) l h.1.0)
 
   -- the bases written, and then the corrections over them
-  pub residues_written : (w n : ℕ) (old bases out : List ℕ) → w ≡ entry_width sequence place → n ≡ entry_count sequence place end
-      → bases ≡ written_at 0 (two_bit_residues sequence start l) old → out ≡ corrected (corrections_at sequence (place + 4) w n) bases
+  pub residues_written : (entries : RangeEntries) (old bases out : List ℕ) → entries ≡ range_entries sequence place end
+      → bases ≡ written_at 0 (two_bit_residues sequence start l) old
+      → out ≡ corrected (corrections_at sequence entries.start entries.width entries.count) bases
       → out ≡ written_at 0 (dna_residues sequence start place end l) old
-  residues_written w n old bases out e f b o =
+  residues_written entries old bases out e b o =
+      let same : corrections_at sequence (place + 4) (range_width sequence place end) (entry_count sequence place end) ≡ range_corrections sequence place end =
+      by_width sequence place end (corrections_at sequence (place + 4)) (λ v w. refl) in
       o
-      ∙ rw (e, f, b)
+      ∙ rw (e, b, same)
       (corrected-start (range_corrections sequence place end) (two_bit_residues sequence start l) old ends_fit)
 
   pub length-residues : length (dna_residues sequence start place end l) ≡ l

@@ -7,6 +7,7 @@ use Prim.Native.Nat.{ℕ, ◌≤◌}
 use native.Mathlib.Omega.{arith}
 use borrow.Author.Tests.{leb-true}
 use lib.ListN.{length}
+use Rattle.std.specs.Prelude.{Result, Ok, Err}
 use Rattle.laws.specs.Rules.{AllHold}
 use Rattle.laws.specs.Writing.{written_at}
 use Rattle.laws.proofs.Places.{length-list_to}
@@ -17,8 +18,6 @@ use Rattle.answers.specs.declared.Refusal.{Refusal}
 use Rattle.residues.specs.Tables.{protein_code}
 use Rattle.volume.specs.Index.{is_protein}
 use Rattle.volume.specs.Tables.{sequence_start, protein_length, dna_end, dna_length, sequence_length}
-use Rattle.sequence.specs.declared.DecodeAnswer.{DecodeAnswer}
-use Rattle.sequence.specs.declared.DecodeAnswer.TheVariants.{Decoded, Refused}
 use Rattle.sequence.specs.Corrections.{range_rules}
 use Rattle.sequence.specs.Sequence.{byte_from, range_end, dna_entry_rules, dna_rules, decode_rules, decode_answer}
 use Rattle.sequence.specs.Sequence.{decode_number, protein_decoded, dna_decoded, residues_of, decode_output}
@@ -27,7 +26,7 @@ use Rattle.sequence.proofs.Corrected as Corrected
 use Rattle.sequence.proofs.Exact.{DecodeParts, decode_parts, zero_passed}
 
 module _ (index sequence : List ℕ) (i room : ℕ) (decodes : decode_number (decode_answer index sequence i room) ≡ 0) where
-  all : AllHold (decode_rules index sequence i room) × (decode_answer index sequence i room ≡ Decoded (sequence_length index sequence i))
+  all : AllHold (decode_rules index sequence i room) × (decode_answer index sequence i room ≡ Ok (sequence_length index sequence i))
   all = zero_passed index sequence i room decodes
 
   parts : DecodeParts index sequence i room
@@ -58,12 +57,12 @@ module _ (index sequence : List ℕ) (i room : ℕ) (decodes : decode_number (de
       (λ t. rw t (ap length (sym (residues-dna index sequence i t)) ∙ dna-count t))
 
 -- the same from the answer
-module _ (index sequence : List ℕ) (i room l : ℕ) (e : decode_answer index sequence i room ≡ Decoded l) where
+module _ (index sequence : List ℕ) (i room l : ℕ) (e : decode_answer index sequence i room ≡ Ok l) where
   zero : decode_number (decode_answer index sequence i room) ≡ 0
   zero = ap decode_number e
 
   pub decoded_length : l ≡ sequence_length index sequence i
-  decoded_length = let f : Decoded l ≡ Decoded (sequence_length index sequence i) = sym e ∙ (all index sequence i room zero).1 in cc
+  decoded_length = let f : ◌≡◌ {A = Result ℕ Refusal} (Ok l) (Ok (sequence_length index sequence i)) = sym e ∙ (all index sequence i room zero).1 in cc
 
   pub decoded_fits : l ≤ room
   decoded_fits = let f = decoded_room index sequence i room zero in rw decoded_length f
@@ -78,19 +77,19 @@ module _ (index sequence : List ℕ) (i : ℕ) (output : List ℕ) where
   pub decoded_output : decode_number (decode_answer index sequence i (length output)) ≡ 0
       → decode_output index sequence i output ≡ written_at 0 (residues_of index sequence i) output
   decoded_output z =
-      sym (output_by index sequence i output (Decoded (sequence_length index sequence i)) (sym (all index sequence i (length output) z).1))
+      sym (output_by index sequence i output (Ok (sequence_length index sequence i)) (sym (all index sequence i (length output) z).1))
 
   -- a refusal leaves it as it was
-  pub refused-output : (r : Refusal) → decode_answer index sequence i (length output) ≡ Refused r → decode_output index sequence i output ≡ output
-  refused-output r e = sym (output_by index sequence i output (Refused r) (sym e))
+  pub refused-output : (r : Refusal) → decode_answer index sequence i (length output) ≡ Err r → decode_output index sequence i output ≡ output
+  refused-output r e = sym (output_by index sequence i output (Err r) (sym e))
 
   -- it is as long as it was
   pub output-length : length (decode_output index sequence i output) ≡ length output
   output-length = by (decode_answer index sequence i (length output)) refl
     where
-      by : (a : DecodeAnswer) → decode_answer index sequence i (length output) ≡ a → length (decode_output index sequence i output) ≡ length output
-      by (Decoded l) e =
+      by : (a : Result ℕ Refusal) → decode_answer index sequence i (length output) ≡ a → length (decode_output index sequence i output) ≡ length output
+      by (Ok l) e =
           let n = decoded_count index sequence i (length output) l e in
           let f = decoded_fits index sequence i (length output) l e in
           ap length (decoded_output (ap decode_number e)) ∙ length_written 0 (residues_of index sequence i) output (omega arith)
-      by (Refused r) e = ap length (refused-output r e)
+      by (Err r) e = ap length (refused-output r e)

@@ -3,7 +3,7 @@
 -- Assumes nothing.
 use mathlib.Core.Path.{◌≡◌, refl, sym, ap, subst, ◌∙◌}
 use mathlib.Core.Bool.{Bool, true, false, cond, not, ◌&&◌, and-false}
-use mathlib.Core.List.{List, [], ◌∷◌, ◌++◌}
+use mathlib.Core.List.{List, [], ◌∷◌}
 use mathlib.Core.Logic.{◌⊎◌, ⊎_elim}
 use Prim.Native.Nat.{ℕ, zero, suc, ◌+◌, ◌-◌, ◌/◌, ◌%◌, ◌^◌, ◌≤◌, ◌<◌}
 use native.Mathlib.Omega.{arith}
@@ -11,6 +11,7 @@ use borrow.Author.Tests.{leb-true, le-leb, lt-leb, ltb-true, lt-ltb, le-ltb, eqb
 use lib.Dec.{leb, ltb, eqb}
 use lib.IntN.{pos}
 use lib.ListN.{length, get_or}
+use Rattle.std.specs.Prelude.{Ok, Err}
 use Rattle.laws.specs.Digits.{digits}
 use Rattle.laws.specs.Places.{every}
 use Rattle.laws.specs.Rules.{Rule, verdict, AllHold}
@@ -28,7 +29,6 @@ use Rattle.volume.specs.Tables.{sequence_start, dna_end, protein_length, dna_len
 use Rattle.volume.proofs.Named.{index_tests, index_tests_back}
 use Rattle.volume.proofs.Exact.{protein-type, dna-type, fields_of, fields_test}
 use Rattle.sequence.specs.declared.Correction.{Correction}
-use Rattle.sequence.specs.declared.DecodeAnswer.TheVariants.{Decoded, Refused}
 use Rattle.sequence.specs.Bases.{bases_of, base_at}
 use Rattle.sequence.specs.Corrections.{entry_width, entry_count, correction_at, correction_end, end_before, entry_fits, range_rules}
 use Rattle.sequence.specs.Corrections.{corrections_at, range_corrections, correction_in, covers, corrected_at}
@@ -266,19 +266,19 @@ module _ (index sequence : List ℕ) (i room : ℕ) where
 
   -- Decoding answers 0 only where all rules of its list hold, and then returns L ..
   pub zero_passed : decode_number (decode_answer index sequence i room) ≡ 0
-      → AllHold (decode_rules index sequence i room) × (decode_answer index sequence i room ≡ Decoded (sequence_length index sequence i))
+      → AllHold (decode_rules index sequence i room) × (decode_answer index sequence i room ≡ Ok (sequence_length index sequence i))
   unfolding decode_answer
-  zero_passed h = zero-passes Refused (Decoded (sequence_length index sequence i)) decode_number (λ r. refl) (decode_rules index sequence i room) h
+  zero_passed h = zero-passes Err (Ok (sequence_length index sequence i)) decode_number (λ r. refl) (decode_rules index sequence i room) h
 
   -- .. and so only where the rules of the sequence are kept.
   pub zero_rules : decode_number (decode_answer index sequence i room) ≡ 0
-      → SequenceHolds index sequence i room × (decode_answer index sequence i room ≡ Decoded (sequence_length index sequence i))
+      → SequenceHolds index sequence i room × (decode_answer index sequence i room ≡ Ok (sequence_length index sequence i))
   zero_rules h = let p = zero_passed h in (holds_of (decode_parts p.0), p.1)
 
   pub parts_zero : DecodeParts → decode_number (decode_answer index sequence i room) ≡ 0
   unfolding decode_answer
   parts_zero p =
-      ap decode_number (verdict-passes Refused (Decoded (sequence_length index sequence i)) (decode_rules index sequence i room) (parts_decode p))
+      ap decode_number (verdict-passes Err (Ok (sequence_length index sequence i)) (decode_rules index sequence i room) (parts_decode p))
 
   -- A sequence that keeps every rule decodes.
   pub rules_zero : SequenceHolds index sequence i room → decode_number (decode_answer index sequence i room) ≡ 0
@@ -291,13 +291,13 @@ abbrev lacks : ℕ → List (Rule Refusal) → Bool
 lacks n [] = true
 lacks n (r ∷ rs) = not (eqb (number_of r.refusal) n) && lacks n rs
 
-never_told : (l n : ℕ) → (0 ≡ n → ⊥) → (rs : List (Rule Refusal)) → lacks n rs ≡ true → decode_number (verdict Refused (Decoded l) rs) ≡ n → ⊥
+never_told : (l n : ℕ) → (0 ≡ n → ⊥) → (rs : List (Rule Refusal)) → lacks n rs ≡ true → decode_number (verdict Err (Ok l) rs) ≡ n → ⊥
 never_told l n z [] t e = z e
 never_told l n z (r ∷ rs) t e =
     let p = both_pass (not (eqb (number_of r.refusal) n)) (lacks n rs) t in go r.holds p.0 e (never_told l n z rs p.1)
   where
-    go : (b : Bool) → not (eqb (number_of r.refusal) n) ≡ true → decode_number (cond b (verdict Refused (Decoded l) rs) (Refused r.refusal)) ≡ n
-        → (decode_number (verdict Refused (Decoded l) rs) ≡ n → ⊥) → ⊥
+    go : (b : Bool) → not (eqb (number_of r.refusal) n) ≡ true → decode_number (cond b (verdict Err (Ok l) rs) (Err r.refusal)) ≡ n
+        → (decode_number (verdict Err (Ok l) rs) ≡ n → ⊥) → ⊥
     go true s f k = k f
     go false s f k = never (rw (eq-eqb (number_of r.refusal) n f) at s)
 

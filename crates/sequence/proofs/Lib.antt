@@ -10,3 +10,4 @@ pub mod Exact
 pub mod Decoded
 pub mod Passed
 pub mod Checked
+mod Parts

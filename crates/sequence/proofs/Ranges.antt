@@ -10,14 +10,17 @@ use native.Mathlib.Numerals.{add-one}
 use native.Mathlib.Omega.{arith}
 use lib.Dec.{leb, eqb, lit<}
 use lib.ListN.{length}
-use lib.Pow.{pow_pos, shl_exact}
+use lib.Pow.{shl_exact}
 use borrow.Author.Tests.{leb-true, leb-false, eqb-true, le-leb, lt-leb, eq-eqb, ne_eqb}
+use Rattle.std.specs.Prelude.{Option, Some, None}
 use Rattle.laws.specs.Places.{every}
 use Rattle.laws.specs.Rules.{AllHold}
 use Rattle.laws.proofs.Places.{every_at}
-use Rattle.laws.proofs.Tests.{both_pass}
+use Rattle.laws.proofs.Tests.{bool_cases, both_pass}
 use Rattle.sequence.specs.declared.Correction.{Correction}
-use Rattle.sequence.specs.Corrections.{stated_words, is_wide, is_table, entry_width, entry_count, correction_of, correction_at}
+use Rattle.sequence.specs.declared.RangeEntries.{RangeEntries}
+use Rattle.sequence.specs.Tabled.{range_width, range_entries, entries_of, LieInside}
+use Rattle.sequence.specs.Corrections.{first_word, stated_words, is_wide, is_table, entry_width, entry_count, correction_of, correction_at}
 use Rattle.sequence.specs.Corrections.{correction_end, end_before, entry_fits, range_rules}
 use Rattle.sequence.specs.Holds.{HasEntries, empty, narrow, wide}
 
@@ -30,9 +33,6 @@ width_eight w (inr e) n = e
 
 -- the bits of an entry's fields, as the code shifts by them
 module _ (w : ℕ) (e : (w ≡ 4) ⊎ (w ≡ 8)) where
-  pub value_shift : (4 ≤ 8 * w) × (8 * w - 4 < 64)
-  value_shift = ⊎_elim (λ f. omega arith) (λ f. omega arith) e
-
   pub offset_shift : 6 * w < 64
   offset_shift = ⊎_elim (λ f. omega arith) (λ f. omega arith) e
 
@@ -41,9 +41,6 @@ module _ (w : ℕ) (e : (w ≡ 4) ⊎ (w ≡ 8)) where
 
 pub power_shifted : (b : ℕ) → b < 64 → 1 * 2 ^ b % 18446744073709551616 ≡ 2 ^ b
 power_shifted b h = shl_exact {a = 1} 1 b 64 (lit< tt) (omega arith) ∙ one-mul (2 ^ b)
-
-pub power_positive : (b : ℕ) → b < 64 → 0 < 1 * 2 ^ b % 18446744073709551616
-power_positive b h = rw (power_shifted b h) (pow_pos b)
 
 -- an entry's value is below 16, its offset below 2^48, and its repeat at most 4096
 pub correction_small : (w entry : ℕ) → (w ≡ 4) ⊎ (w ≡ 8) → entry < 2 ^ (8 * w)
@@ -111,13 +108,87 @@ module _ (sequence : List ℕ) (place end : ℕ) where
     entry_inside (narrow h e f g) j l = rw f (omega arith)
     entry_inside (wide h e f g) j l = rw f (omega arith)
 
--- each entry lies within the file, by the width and the count that were told
-pub entry_in_file : (sequence : List ℕ) (place end w n : ℕ) → is_table sequence place end ≡ true → end ≤ length sequence
-    → w ≡ entry_width sequence place → n ≡ entry_count sequence place end → (j : ℕ) → j < n → place + 4 + w * j + w ≤ length sequence
-entry_in_file sequence place end w n t h e f j l =
-    let i : place + 4 + w * j + w ≤ end = rw e
-    (entry_inside sequence place end (entry_width sequence place) (entry_count sequence place end) (table_of sequence place end t) j (rw (← f) l)) in
-    omega arith
+-- an entry has four or eight bytes
+pub width_either : (sequence : List ℕ) (place : ℕ) → (entry_width sequence place ≡ 4) ⊎ (entry_width sequence place ≡ 8)
+unfolding entry_width
+width_either sequence place = bool_cases (is_wide sequence place) (λ t. inr (rw t)) (λ f. inl (rw f))
+
+-- where there is an entry, the range has the width that its word states
+pub at_width : (sequence : List ℕ) (place end j : ℕ) → j < entry_count sequence place end → range_width sequence place end ≡ entry_width sequence place
+unfolding entry_count
+at_width sequence place end j h =
+    bool_cases (eqb place end) (λ t. let none : j < 0 = rw t at h in absurd (omega arith)) (λ n. rw n refl)
+
+-- what the width does not change where there is no entry is the same by both
+pub by_width : {X : Type 0} (sequence : List ℕ) (place end : ℕ) (f : ℕ → ℕ → X) → ((v w : ℕ) → f v 0 ≡ f w 0)
+    → f (range_width sequence place end) (entry_count sequence place end) ≡ f (entry_width sequence place) (entry_count sequence place end)
+unfolding entry_count
+by_width sequence place end f same = bool_cases (eqb place end) (λ t. rw t (same 4 (entry_width sequence place))) (λ n. rw n refl)
+
+-- the entries of a range lie within the file
+pub entries-lie : (sequence : List ℕ) (place end : ℕ) → is_table sequence place end ≡ true → end ≤ length sequence
+    → LieInside sequence (range_entries sequence place end)
+entries-lie sequence place end t h =
+    record {
+      width = bool_cases (eqb place end) (λ e. rw e (inl refl)) (λ n. rw n (width_either sequence place));
+      inside = λ j l.
+          rw (at_width sequence place end j l)
+          (let i = entry_inside sequence place end (entry_width sequence place) (entry_count sequence place end) (table_of sequence place end t) j l in
+          omega arith);
+    }
+
+-- a range that gives entries is a table, and they are its own
+pub table_some : (sequence : List ℕ) (place end : ℕ) (e : RangeEntries) → entries_of sequence place end ≡ Some e
+    → (is_table sequence place end ≡ true) × (e ≡ range_entries sequence place end)
+table_some sequence place end e = by_test (is_table sequence place end)
+  where
+    by_test : (b : Bool) → ◌≡◌ {A = Option RangeEntries} (cond b (Some (range_entries sequence place end)) None) (Some e)
+        → (b ≡ true) × (e ≡ range_entries sequence place end)
+    by_test true f = (refl, cc)
+    by_test false f = absurd (let z : ◌≡◌ {A = Option RangeEntries} None (Some e) = f in cc)
+
+-- ---- the entries that a range's first word states
+
+-- four bytes an entry where the top bit is clear, else eight
+abbrev pub HasWidth : ℕ → ℕ → Type 0
+HasWidth word width = ((word < 2147483648) × (width ≡ 4)) ⊎ ((2147483648 ≤ word) × (width ≡ 8))
+
+-- an empty range has none
+pub entries-empty : (sequence : List ℕ) (place end : ℕ) → place ≡ end → Some (record { start = place + 4; width = 4; count = 0 }) ≡ entries_of sequence place end
+entries-empty sequence place end e =
+    let h : HasEntries sequence place end 4 0 = empty e refl in
+    rw (table_test sequence place end 4 0 h, count_of sequence place end 4 0 h, eq-eqb place end e)
+
+module _ (sequence : List ℕ) (place end word width : ℕ) (read : word ≡ first_word sequence place) (told : HasWidth word width) where
+  abbrev words : ℕ
+  words = word % 2147483648
+
+  width_told : width ≡ entry_width sequence place
+  unfolding entry_width
+  width_told = rw (← read) (⊎_elim (λ n. rw (lt-leb 2147483648 word n.0) n.1) (λ w. rw (le-leb 2147483648 word w.0) w.1) told)
+
+  -- its words are as many whole entries as they have room for
+  module _ (e : place + 4 + 4 * words ≡ end) (g : width * (4 * words / width) ≡ 4 * words) where
+    has : HasEntries sequence place end width (4 * words / width)
+    has =
+        ⊎_elim (λ n. narrow (rw read at n.0) (rw read at e) n.1 (rw (n.1, ← read) (omega arith)))
+        (λ w. let whole : 8 * (4 * words / 8) ≡ 4 * words = rw w.1 at g in wide (rw read at w.0) (rw read at e) w.1 (rw (w.1, ← read) (omega arith))) told
+
+    pub entries-some : Some (record { start = place + 4; width = width; count = 4 * words / width }) ≡ entries_of sequence place end
+    entries-some = rw (table_test sequence place end width _ has, count_of sequence place end width _ has, some_words sequence place end words e, ← width_told)
+
+  -- its words are no whole entries, or end elsewhere
+  module _ (n : place ≡ end → ⊥) (m : place + 4 + 4 * words ≡ end → width * (4 * words / width) ≡ 4 * words → ⊥) where
+    wrong : (w k : ℕ) → HasEntries sequence place end w k → ⊥
+    wrong w k (empty e z) = n e
+    wrong w k (narrow h e f g) =
+        m (rw (← read) at e) (⊎_elim (λ t. rw t.1 (omega arith)) (λ t. let big = rw read at t.0 in absurd (omega arith)) told)
+    wrong w k (wide h e f g) =
+        let even : 2 * k ≡ words = rw (← read) at g in
+        m (rw (← read) at e) (⊎_elim (λ t. let small = rw read at t.0 in absurd (omega arith)) (λ t. rw t.1 (omega arith)) told)
+
+    pub entries-wrong : None ≡ entries_of sequence place end
+    entries-wrong = bool_cases (is_table sequence place end) (λ t. absurd (wrong _ _ (table_of sequence place end t))) (λ f. rw f)
 
 -- ---- corrections
 
@@ -154,13 +225,9 @@ module _ (sequence : List ℕ) (entries w l n : ℕ) (e : every (entry_fits sequ
   pub ends-within : correction_end (correction_at sequence entries w j) ≤ l
   ends-within = fit.1
 
--- ---- a range whose rules hold, with the width and the count that were told
+-- ---- a range whose rules hold
 
-module _ (sequence : List ℕ) (place end l w n : ℕ) (h : AllHold (range_rules sequence place end l)) (e : w ≡ entry_width sequence place)
-    (f : n ≡ entry_count sequence place end) where
-  pub table-entries : end ≤ length sequence → (j : ℕ) → j < n → place + 4 + w * j + w ≤ length sequence
-  table-entries = λ k. entry_in_file sequence place end w n h.0 k e f
-
-  pub table-ends : (j : ℕ) → j < n → correction_end (correction_at sequence (place + 4) w j) ≤ l
-  table-ends j i =
-      rw e (ends-within sequence (place + 4) (entry_width sequence place) l (entry_count sequence place end) h.1.0 j (rw (← f) i))
+pub table-ends : (sequence : List ℕ) (place end l : ℕ) → AllHold (range_rules sequence place end l) → (j : ℕ) → j < entry_count sequence place end
+    → correction_end (correction_at sequence (place + 4) (entry_width sequence place) j) ≤ l
+table-ends sequence place end l h =
+    ends-within sequence (place + 4) (entry_width sequence place) l (entry_count sequence place end) h.1.0

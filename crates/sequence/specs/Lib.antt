@@ -3,6 +3,7 @@ pub mod BaseTable
 pub mod Corrections
 pub mod Sequence
 pub mod Mended
+pub mod Tabled
 pub mod Placed
 pub mod Checked
 pub mod Holds

@@ -1,13 +1,11 @@
 -- One sequence by the places that its entries state, each 0 where the entry is negative: the rules of its entries over these places, and
 -- what decoding answers and writes. proofs/Own.antt shows that they decide as the entries do.
 -- Assumes nothing.
-use Rattle.std.specs.Prelude.{List, [], ◌∷◌, ◌++◌, ℕ, ◌-◌, leb, ltb, eqb, length, get_or}
+use Rattle.std.specs.Prelude.{List, [], ◌∷◌, ◌++◌, ℕ, ◌-◌, leb, ltb, eqb, length, get_or, Result, Ok, Err}
 use Rattle.laws.specs.Rules.{Rule, ask, verdict}
 use Rattle.answers.specs.declared.Refusal.{Refusal}
 use Rattle.answers.specs.declared.Refusal.TheVariants.{BadOffsets, BadSeparator}
 use Rattle.volume.specs.Tables.{sequence_start, protein_end, dna_end, two_bit_length}
-use Rattle.sequence.specs.declared.DecodeAnswer.{DecodeAnswer}
-use Rattle.sequence.specs.declared.DecodeAnswer.TheVariants.{Decoded, Refused}
 use Rattle.sequence.specs.declared.Entry.{Entry}
 use Rattle.sequence.specs.Corrections.{range_rules}
 use Rattle.sequence.specs.Sequence.{range_end, protein_byte_rules, room_rules, protein_residues, dna_residues}
@@ -30,9 +28,9 @@ protein_place_rules sequence e =
 abbrev pub placed_protein : Entry → ℕ
 placed_protein e = e.end - e.start
 
-abbrev pub placed_protein_answer : List ℕ → Entry → ℕ → DecodeAnswer
+abbrev pub placed_protein_answer : List ℕ → Entry → ℕ → Result ℕ Refusal
 placed_protein_answer sequence e room =
-    verdict Refused (Decoded (placed_protein e))
+    verdict Err (Ok (placed_protein e))
     (protein_place_rules sequence e ++ (protein_byte_rules sequence e.start (placed_protein e) ++ room_rules (placed_protein e) room))
 
 abbrev pub placed_protein_residues : List ℕ → Entry → List ℕ
@@ -51,9 +49,9 @@ dna_place_rules sequence e =
 abbrev pub placed_dna : List ℕ → Entry → ℕ
 placed_dna sequence e = two_bit_length sequence e.start e.end
 
-abbrev pub placed_dna_answer : List ℕ → Entry → ℕ → DecodeAnswer
+abbrev pub placed_dna_answer : List ℕ → Entry → ℕ → Result ℕ Refusal
 placed_dna_answer sequence e room =
-    verdict Refused (Decoded (placed_dna sequence e))
+    verdict Err (Ok (placed_dna sequence e))
     (dna_place_rules sequence e ++ (range_rules sequence e.end e.next (placed_dna sequence e) ++ room_rules (placed_dna sequence e) room))
 
 abbrev pub placed_dna_residues : List ℕ → Entry → List ℕ

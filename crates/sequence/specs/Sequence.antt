@@ -1,6 +1,6 @@
 -- One sequence of a volume decoded: its rules in the order of document 01, its residues, and what the output holds.
 -- Assumes nothing.
-use Rattle.std.specs.Prelude.{Bool, cond, List, [], ◌∷◌, ◌++◌, ℕ, ◌+◌, ◌-◌, leb, ltb, eqb, pos, length, get_or}
+use Rattle.std.specs.Prelude.{Bool, cond, List, [], ◌∷◌, ◌++◌, ℕ, ◌+◌, ◌-◌, leb, ltb, eqb, pos, length, get_or, Result, Ok, Err}
 use Rattle.std.specs.Int.Signed.{le_z, lt_z}
 use Rattle.laws.specs.Places.{every, list_to}
 use Rattle.laws.specs.Rules.{Rule, ask, verdict}
@@ -13,8 +13,6 @@ use Rattle.answers.specs.declared.Refusal.TheVariants.{TooLarge, NoSuchSequence,
 use Rattle.residues.specs.Tables.{protein_code}
 use Rattle.volume.specs.Index.{is_protein, sequences, read_rules}
 use Rattle.volume.specs.Tables.{sequence_offset, ambiguity_offset, sequence_start, protein_end, dna_end, protein_length, dna_length, sequence_length}
-use Rattle.sequence.specs.declared.DecodeAnswer.{DecodeAnswer}
-use Rattle.sequence.specs.declared.DecodeAnswer.TheVariants.{Decoded, Refused}
 use Rattle.sequence.specs.Bases.{two_bit_residues}
 use Rattle.sequence.specs.Corrections.{range_rules, range_corrections, corrected}
 
@@ -108,27 +106,27 @@ residues_of index sequence i = cond (is_protein index) (protein_decoded index se
 -- ---- the answer
 
 -- L, or the refusal.
-unfoldable pub decode_answer : List ℕ → List ℕ → ℕ → ℕ → DecodeAnswer
-decode_answer index sequence i room = verdict Refused (Decoded (sequence_length index sequence i)) (decode_rules index sequence i room)
+unfoldable pub decode_answer : List ℕ → List ℕ → ℕ → ℕ → Result ℕ Refusal
+decode_answer index sequence i room = verdict Err (Ok (sequence_length index sequence i)) (decode_rules index sequence i room)
 
 -- The answer where the rules of the index hold.
-abbrev pub own_answer : List ℕ → List ℕ → ℕ → ℕ → DecodeAnswer
-own_answer index sequence i room = verdict Refused (Decoded (sequence_length index sequence i)) (own_rules index sequence i room)
+abbrev pub own_answer : List ℕ → List ℕ → ℕ → ℕ → Result ℕ Refusal
+own_answer index sequence i room = verdict Err (Ok (sequence_length index sequence i)) (own_rules index sequence i room)
 
 -- What the output holds afterwards: on success the first L bytes are the codes and the rest is unchanged; on a refusal all is unchanged.
-abbrev pub written_by : DecodeAnswer → List ℕ → List ℕ → List ℕ
-written_by (Decoded l) codes output = written_at 0 codes output
-written_by (Refused r) codes output = output
+abbrev pub written_by : Result ℕ Refusal → List ℕ → List ℕ → List ℕ
+written_by (Ok l) codes output = written_at 0 codes output
+written_by (Err r) codes output = output
 
 unfoldable pub decode_output : List ℕ → List ℕ → ℕ → List ℕ → List ℕ
 decode_output index sequence i output =
     written_by (decode_answer index sequence i (length output)) (residues_of index sequence i) output
 
 -- Document 01's number of an answer, and its values.
-abbrev pub decode_number : DecodeAnswer → ℕ
-decode_number (Decoded l) = 0
-decode_number (Refused r) = number_of r
+abbrev pub decode_number : Result ℕ Refusal → ℕ
+decode_number (Ok l) = 0
+decode_number (Err r) = number_of r
 
-abbrev pub decode_values : DecodeAnswer → List ℕ
-decode_values (Decoded l) = l ∷ []
-decode_values (Refused r) = []
+abbrev pub decode_values : Result ℕ Refusal → List ℕ
+decode_values (Ok l) = l ∷ []
+decode_values (Err r) = []

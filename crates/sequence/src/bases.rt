@@ -4,7 +4,7 @@ ghost use Rattle.laws.specs.Places.{every, largest_to};
 ghost use Rattle.laws.specs.Writing.{written_at};
 ghost use Rattle.sequence.specs.Bases.{bases_of, two_bit_residues};
 ghost use Rattle.residues.specs.Tables.{protein_code};
-ghost use Rattle.sequence.specs.Mended.{where_is, residues_from};
+ghost use Rattle.sequence.specs.Mended.{where_is, AreProteins, residues_from};
 ghost use Rattle.sequence.specs.Sequence.{byte_from, most_protein_byte, is_protein_byte, protein_residues};
 
 use super::table::write_by_table;
@@ -14,8 +14,8 @@ use super::table::write_by_table;
 fn bases(byte: u8) -> [u8; 4]
     ensures { result ≡ bases_of byte }
 {
-    let high = (byte / 16) as u16 * 1025;
-    let low = (byte % 16) as u16 * 1025;
+    let high = u16::from(byte / 16) * 1025;
+    let low = u16::from(byte % 16) * 1025;
     [
         (high / 4 % 4) as u8,
         (high / 1024 % 4) as u8,
@@ -28,83 +28,61 @@ fn bases(byte: u8) -> [u8; 4]
 // which short ones have no time; and up to this length, whose residues lie in a processor's nearest caches, products are twice as fast.
 const LONG: usize = 32768;
 
-// Writes the bases of whole bytes from a start on, each byte's by products.
-fn write_by_products(sequence: &[u8], start: usize, count: usize, out: &mut [u8])
-    requires { (start + count ≤ length sequence.now) × (4 * count ≤ length out.old) }
-    ensures { out.new ≡ written_at 0 (two_bit_residues sequence.now start (4 * count)) out.old }
+// Writes the bases of whole bytes, each byte's by products.
+fn write_by_products(bytes: &[u8], out: &mut [u8])
+    requires { 4 * length bytes.now ≤ length out.old }
+    ensures { out.new ≡ written_at 0 (two_bit_residues bytes.now 0 (4 * length bytes.now)) out.old }
 {
-    let mut m = 0;
-    while m < count {
-        let four = bases(sequence[start + m]);
+    for (m, &byte) in bytes.iter().enumerate() {
+        let four = bases(byte);
         out[4 * m] = four[0];
         out[4 * m + 1] = four[1];
         out[4 * m + 2] = four[2];
         out[4 * m + 3] = four[3];
-        m += 1;
     }
 }
 
-// Writes the bases of whole bytes from a start on.
-fn write_whole(sequence: &[u8], start: usize, count: usize, out: &mut [u8])
-    requires { (start + count ≤ length sequence.now) × (4 * count ≤ length out.old) }
-    ensures { out.new ≡ written_at 0 (two_bit_residues sequence.now start (4 * count)) out.old }
+// Writes the bases of whole bytes.
+fn write_whole(bytes: &[u8], out: &mut [u8])
+    requires { 4 * length bytes.now ≤ length out.old }
+    ensures { out.new ≡ written_at 0 (two_bit_residues bytes.now 0 (4 * length bytes.now)) out.old }
 {
-    if count < LONG {
-        write_by_products(sequence, start, count, out);
-        return;
+    if bytes.len() < LONG {
+        write_by_products(bytes, out);
+    } else {
+        write_by_table(bytes, out);
     }
-    write_by_table(sequence, start, count, out);
 }
 
-// Writes the first l residues of the two-bit bytes from a start on.
-pub(crate) fn write_bases(sequence: &[u8], start: usize, l: usize, out: &mut [u8])
-    requires { (start + l / 4 < length sequence.now) × (l ≤ length out.old) }
-    ensures { out.new ≡ written_at 0 (two_bit_residues sequence.now start l) out.old }
+// Writes the first l residues of two-bit bytes.
+pub(crate) fn write_bases(bytes: &[u8], l: usize, out: &mut [u8])
+    requires { (l / 4 < length bytes.now) × (l ≤ length out.old) }
+    ensures { out.new ≡ written_at 0 (two_bit_residues bytes.now 0 l) out.old }
 {
     let whole = l / 4;
-    write_whole(sequence, start, whole, out);
-    let four = bases(sequence[start + whole]);
-    let mut k = 4 * whole;
-    while k < l {
+    write_whole(&bytes[..whole], out);
+    let four = bases(bytes[whole]);
+    for k in 4 * whole..l {
         out[k] = four[k - 4 * whole];
-        k += 1;
     }
 }
 
-// The largest of l bytes from a start on.
-fn largest_byte(sequence: &[u8], start: usize, l: usize) -> u8
-    requires { start + l ≤ length sequence.now }
-    ensures { result ≡ largest_to (byte_from sequence.now start) l }
+// The largest of some bytes.
+fn largest_byte(bytes: &[u8]) -> u8
+    ensures { result ≡ largest_to (byte_from bytes.now 0) (length bytes.now) }
 {
     let mut top: u8 = 0;
-    let mut k = 0;
-    while k < l {
-        let b = sequence[start + k];
-        if top < b {
-            top = b;
-        }
-        k += 1;
+    for &byte in bytes {
+        top = top.max(byte);
     }
     top
 }
 
-// Whether each of l bytes from a start on is a protein value.
-pub(crate) fn are_proteins(sequence: &[u8], start: usize, l: usize) -> bool
-    requires { start + l ≤ length sequence.now }
-    ensures { result ≡ every (is_protein_byte sequence.now start) l }
+// Whether each of some bytes is a protein value.
+pub(crate) fn are_proteins(bytes: &[u8]) -> bool
+    ensures { result ≡ every (is_protein_byte bytes.now 0) (length bytes.now) }
 {
-    largest_byte(sequence, start, l) <= 27
-}
-
-// The difference of two bytes; 0 where it would be negative.
-fn minus(a: u8, b: u8) -> u8
-    ensures value { result ≡ a - b }
-    ensures small { result ≤ a }
-{
-    if a < b {
-        return 0;
-    }
-    a - b
+    largest_byte(bytes) <= 27
 }
 
 // A number where a byte is a given one, else 0.
@@ -112,10 +90,7 @@ fn where_is(byte: u8, given: u8, number: u8) -> u8
     ensures value { result ≡ where_is byte given number }
     ensures small { result ≤ number }
 {
-    if byte == given {
-        return number;
-    }
-    0
+    if byte == given { number } else { 0 }
 }
 
 // The code of a protein byte. Most codes are the byte less 2, and the others are mended one by one: without a table and without a branch,
@@ -124,67 +99,59 @@ fn protein_code(byte: u8) -> u8
     requires { byte ≤ most_protein_byte }
     ensures { result ≡ protein_code byte }
 {
-    let raised = minus(byte, 2)
-        + minus(byte, 21)
+    let raised = byte.saturating_sub(2)
+        + byte.saturating_sub(21)
         + where_is(byte, 0, 20)
         + where_is(byte, 2, 21)
         + where_is(byte, 21, 7);
     let lowered = where_is(byte, 22, 2) + where_is(byte, 26, 5) + where_is(byte, 27, 9);
-    minus(raised, lowered)
+    raised.saturating_sub(lowered)
 }
 
-// The codes of sixteen of the protein bytes from a start on, from the k-th on.
-fn sixteen_codes(sequence: &[u8], start: usize, k: usize) -> [u8; 16]
-    requires { (start + (k + 16) ≤ length sequence.now) × ((i : ℕ) → i < 16 → byte_from sequence.now start (k + i) ≤ most_protein_byte) }
-    ensures { result ≡ residues_from sequence.now start k 16 }
+// The codes of sixteen protein bytes.
+fn sixteen_codes(block: &[u8]) -> [u8; 16]
+    requires { (length block.now ≡ 16) × AreProteins block.now }
+    ensures { result ≡ protein_residues block.now 0 16 }
 {
     let mut codes = [0u8; 16];
-    let mut i: usize = 0;
-    while i < 16 {
-        codes[i] = protein_code(sequence[start + (k + i)]);
-        i += 1;
+    for i in 0..16 {
+        codes[i] = protein_code(block[i]);
     }
     codes
 }
 
-// Writes these codes at their place of the output. All are made before the first is stored, so that the compiler makes them together.
-fn put_sixteen(sequence: &[u8], start: usize, k: usize, out: &mut [u8])
-    requires { (start + (k + 16) ≤ length sequence.now) × ((i : ℕ) → i < 16 → byte_from sequence.now start (k + i) ≤ most_protein_byte) × (k + 16 ≤ length out.old) }
-    ensures { out.new ≡ written_at k (residues_from sequence.now start k 16) out.old }
+// Writes the codes of sixteen of the protein bytes, from the k-th on, at their place of the output. All are made before the first is
+// stored, so that the compiler makes them together.
+fn put_sixteen(bytes: &[u8], k: usize, out: &mut [u8])
+    requires { (k + 16 ≤ length bytes.now) × AreProteins bytes.now × (k + 16 ≤ length out.old) }
+    ensures { out.new ≡ written_at k (residues_from bytes.now 0 k 16) out.old }
 {
-    let codes = sixteen_codes(sequence, start, k);
-    let mut j: usize = 0;
-    while j < 16 {
-        out[k + j] = codes[j];
-        j += 1;
+    let codes = sixteen_codes(&bytes[k..k + 16]);
+    out[k..k + 16].copy_from_slice(&codes);
+}
+
+// Writes the residues of protein bytes, one by one.
+fn write_few(bytes: &[u8], out: &mut [u8])
+    requires { AreProteins bytes.now × (length bytes.now ≤ length out.old) }
+    ensures { out.new ≡ written_at 0 (protein_residues bytes.now 0 (length bytes.now)) out.old }
+{
+    for (k, &byte) in bytes.iter().enumerate() {
+        out[k] = protein_code(byte);
     }
 }
 
-// Writes the residues of l protein bytes from a start on, one by one.
-fn write_few(sequence: &[u8], start: usize, l: usize, out: &mut [u8])
-    requires { (start + l ≤ length sequence.now) × ((i : ℕ) → i < l → byte_from sequence.now start i ≤ most_protein_byte) × (l ≤ length out.old) }
-    ensures { out.new ≡ written_at 0 (protein_residues sequence.now start l) out.old }
+// Writes the residues of protein bytes, sixteen at once; the last sixteen are whole too, and write some once more.
+pub(crate) fn write_proteins(bytes: &[u8], out: &mut [u8])
+    requires { AreProteins bytes.now × (length bytes.now ≤ length out.old) }
+    ensures { out.new ≡ written_at 0 (protein_residues bytes.now 0 (length bytes.now)) out.old }
 {
-    let mut k = 0;
-    while k < l {
-        out[k] = protein_code(sequence[start + k]);
-        k += 1;
-    }
-}
-
-// Writes the residues of l protein bytes from a start on, sixteen at once; the last sixteen are whole too, and write some once more.
-pub(crate) fn write_proteins(sequence: &[u8], start: usize, l: usize, out: &mut [u8])
-    requires { (start + l ≤ length sequence.now) × ((i : ℕ) → i < l → byte_from sequence.now start i ≤ most_protein_byte) × (l ≤ length out.old) }
-    ensures { out.new ≡ written_at 0 (protein_residues sequence.now start l) out.old }
-{
+    let l = bytes.len();
     if l < 16 {
-        write_few(sequence, start, l, out);
+        write_few(bytes, out);
         return;
     }
-    let mut k = 0;
-    while l - k >= 16 {
-        put_sixteen(sequence, start, k, out);
-        k += 16;
+    for block in 0..l / 16 {
+        put_sixteen(bytes, 16 * block, out);
     }
-    put_sixteen(sequence, start, l - 16, out);
+    put_sixteen(bytes, l - 16, out);
 }

@@ -3,58 +3,40 @@ ghost use Rattle.std.specs.Prelude.{◌≡◌, ◌⊎◌, ℕ, ◌+◌, ◌*◌,
 ghost use Rattle.laws.specs.Places.{every, list_to};
 ghost use Rattle.laws.specs.Writing.{written_at};
 ghost use Rattle.fields.specs.Number.{big, unsigned_at};
-ghost use Rattle.answers.specs.Limits.{checked_by};
-ghost use Rattle.sequence.specs.Corrections.{is_table, entry_width, entry_count, correction_at, correction_end, entry_fits, range_rules, corrections_at, corrected};
+ghost use Rattle.sequence.specs.Corrections.{correction_at, correction_end, entry_fits, corrections_at, corrected};
+ghost use Rattle.sequence.specs.Tabled.{entries_of, LieInside, range_answer};
 
-use super::Correction;
-use answers::{Checked, Refusal};
+use super::{Correction, RangeEntries};
+use answers::Refusal;
+use fields::{Order, read};
 
-// Whether the range from a place up to an end is empty, or a word and as many words as it says.
-fn is_table(sequence: &[u8], place: usize, end: usize) -> bool
+// The entries of the range from a place up to an end; none unless it is empty, or a word and as many words as it says. An empty range
+// is not read: most are.
+fn entries_of(sequence: &[u8], place: usize, end: usize) -> Option<RangeEntries>
     requires { (place ≤ end) × (end ≤ 2147483647) }
-    ensures { result ≡ is_table sequence.now place end }
+    ensures { result ≡ entries_of sequence.now place end }
 {
+    let start = place + 4;
     if place == end {
-        return true;
+        return Some(RangeEntries {
+            start,
+            width: 4,
+            count: 0,
+        });
     }
-    if end < place + 4 {
-        return false;
-    }
-    let word = fields::be_u32(sequence, place);
+    let word = read::<u32>(Order::Big, sequence, place);
     let words = (word % 2147483648) as usize;
-    if place + 4 + 4 * words != end {
-        return false;
+    let width = if word < 2147483648 { 4 } else { 8 };
+    let count = 4 * words / width;
+    if start + 4 * words == end && width * count == 4 * words {
+        Some(RangeEntries {
+            start,
+            width,
+            count,
+        })
+    } else {
+        None
     }
-    if word < 2147483648 {
-        return true;
-    }
-    words % 2 == 0
-}
-
-// The bytes of an entry, 4 or 8.
-pub(crate) fn entry_width(sequence: &[u8], place: usize) -> usize
-    ensures value { result ≡ entry_width sequence.now place }
-    ensures either { (result ≡ 4) ⊎ (result ≡ 8) }
-{
-    if fields::be_u32(sequence, place) < 2147483648 {
-        return 4;
-    }
-    8
-}
-
-// The number of entries.
-pub(crate) fn entry_count(sequence: &[u8], place: usize, end: usize) -> usize
-    ensures { result ≡ entry_count sequence.now place end }
-{
-    if place == end {
-        return 0;
-    }
-    let word = fields::be_u32(sequence, place);
-    let words = (word % 2147483648) as usize;
-    if word < 2147483648 {
-        return words;
-    }
-    words / 2
 }
 
 // The entry of w bytes at a place, where it lies inside the file: read from its own bytes, it is one load.
@@ -64,75 +46,60 @@ fn entry_at(sequence: &[u8], at: usize, w: usize) -> u64
     ensures small { result < 2 ^ (8 * w) }
 {
     if w == 4 {
-        let end = at + 4;
-        return fields::be_u32(&sequence[at..end], 0) as u64;
+        return u64::from(read::<u32>(Order::Big, &sequence[at..at + 4], 0));
     }
-    let end = at + 8;
-    fields::be_u64(&sequence[at..end], 0)
+    read::<u64>(Order::Big, &sequence[at..at + 8], 0)
 }
 
-// Entry j of the entries of w bytes from a place on.
-fn correction_at(sequence: &[u8], entries: usize, w: usize, j: usize) -> Correction
-    requires { ((w ≡ 4) ⊎ (w ≡ 8)) × (entries + w * j + w ≤ length sequence.now) }
-    ensures value { result ≡ correction_at sequence.now entries w j }
+// The correction that entry j states.
+fn correction_at(sequence: &[u8], entries: RangeEntries, j: usize) -> Correction
+    requires { LieInside sequence.now entries × (j < entries.count) }
+    ensures value { result ≡ correction_at sequence.now entries.start entries.width j }
     ensures small { (result.value < 16) × (result.start < 281474976710656) × (result.length ≤ 4096) }
 {
-    let entry = entry_at(sequence, entries + w * j, w);
+    let w = entries.width;
+    let entry = entry_at(sequence, entries.start + w * j, w);
     Correction {
-        value: (entry >> (8 * w - 4)) as usize,
+        value: (entry >> (8 * w - 4)) as u8,
         start: (entry % (1 << (6 * w))) as usize,
         length: ((entry >> (6 * w)) % (1 << (2 * w - 4))) as usize + 1,
     }
 }
 
 // Whether each entry starts at or after the end of the one before and ends within l.
-fn entries_fit(sequence: &[u8], entries: usize, w: usize, n: usize, l: usize) -> bool
-    requires { ((w ≡ 4) ⊎ (w ≡ 8)) × ((j : ℕ) → j < n → entries + w * j + w ≤ length sequence.now) }
-    ensures { result ≡ every (entry_fits sequence.now entries w l) n }
+fn entries_fit(sequence: &[u8], entries: RangeEntries, l: usize) -> bool
+    requires { LieInside sequence.now entries }
+    ensures { result ≡ every (entry_fits sequence.now entries.start entries.width l) entries.count }
 {
     let mut low: usize = 0;
-    let mut j = 0;
-    while j < n {
-        let c = correction_at(sequence, entries, w, j);
+    for j in 0..entries.count {
+        let c = correction_at(sequence, entries, j);
         let end = c.start + c.length;
-        if c.start < low {
-            return false;
-        }
-        if l < end {
+        if c.start < low || l < end {
             return false;
         }
         low = end;
-        j += 1;
     }
     true
 }
 
-// The rules of the range from a place up to an end, for a sequence of length l, 12.
-pub(crate) fn check_table(sequence: &[u8], place: usize, end: usize, l: usize) -> Checked
+// The entries of the range from a place up to an end, for a sequence of length l, by the rules of such a range, 12.
+pub(crate) fn check_table(
+    sequence: &[u8],
+    place: usize,
+    end: usize,
+    l: usize,
+) -> Result<RangeEntries, Refusal>
     requires { (place ≤ end) × (end ≤ length sequence.now) × (length sequence.now ≤ 2147483647) }
-    ensures { result ≡ checked_by (range_rules sequence.now place end l) }
+    ensures { result ≡ range_answer sequence.now place end l }
 {
-    if !is_table(sequence, place, end) {
-        return Checked::Refused(Refusal::BadAmbiguity);
+    let Some(entries) = entries_of(sequence, place, end) else {
+        return Err(Refusal::BadAmbiguity);
+    };
+    if !entries_fit(sequence, entries, l) {
+        return Err(Refusal::BadAmbiguity);
     }
-    let w = entry_width(sequence, place);
-    let n = entry_count(sequence, place, end);
-    if !entries_fit(sequence, place + 4, w, n, l) {
-        return Checked::Refused(Refusal::BadAmbiguity);
-    }
-    Checked::Passed
-}
-
-// Writes one code at n places from a start on, one by one.
-fn fill(out: &mut [u8], start: usize, n: usize, code: u8)
-    requires { start + n ≤ length out.old }
-    ensures { out.new ≡ written_at start (list_to (λ _. code) n) out.old }
-{
-    let mut i = 0;
-    while i < n {
-        out[start + i] = code;
-        i += 1;
-    }
+    Ok(entries)
 }
 
 // Writes one code at n places from a start on. Eight to sixteen are two stores of eight, which may meet: most corrections are short.
@@ -140,29 +107,23 @@ fn paint(out: &mut [u8], start: usize, n: usize, code: u8)
     requires { start + n ≤ length out.old }
     ensures { out.new ≡ written_at start (list_to (λ _. code) n) out.old }
 {
-    if n < 8 {
-        fill(out, start, n, code);
+    let end = start + n;
+    if n < 8 || n > 16 {
+        out[start..end].fill(code);
         return;
     }
-    if n > 16 {
-        fill(out, start, n, code);
-        return;
-    }
-    fill(out, start, 8, code);
-    fill(out, start + (n - 8), 8, code);
+    out[start..start + 8].fill(code);
+    out[end - 8..end].fill(code);
 }
 
-// Writes the first n corrections over an output.
-pub(crate) fn correct(sequence: &[u8], entries: usize, w: usize, n: usize, out: &mut [u8])
-    requires fact { ((w ≡ 4) ⊎ (w ≡ 8)) × ((j : ℕ) → j < n → entries + w * j + w ≤ length sequence.now) }
-    requires by_index { (j : ℕ) → j < n → correction_end (correction_at sequence.now entries w j) ≤ length out.old }
-    ensures { out.new ≡ corrected (corrections_at sequence.now entries w n) out.old }
+// Writes the corrections that entries state over an output.
+pub(crate) fn correct(sequence: &[u8], entries: RangeEntries, out: &mut [u8])
+    requires lie { LieInside sequence.now entries }
+    requires end_within { (j : ℕ) → j < entries.count → correction_end (correction_at sequence.now entries.start entries.width j) ≤ length out.old }
+    ensures { out.new ≡ corrected (corrections_at sequence.now entries.start entries.width entries.count) out.old }
 {
-    let mut j = 0;
-    while j < n {
-        let c = correction_at(sequence, entries, w, j);
-        let code = residues::ambiguity_code(c.value as u8);
-        paint(out, c.start, c.length, code);
-        j += 1;
+    for j in 0..entries.count {
+        let c = correction_at(sequence, entries, j);
+        paint(out, c.start, c.length, residues::ambiguity_code(c.value));
     }
 }

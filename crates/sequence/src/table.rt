@@ -6,6 +6,8 @@ ghost use Rattle.fields.specs.Written.{number_bytes};
 ghost use Rattle.sequence.specs.Bases.{bases_of, two_bit_residues};
 ghost use Rattle.sequence.specs.BaseTable.{BaseTable};
 
+use fields::{Order, Unsigned};
+
 // Entry b holds the four codes of byte b, the highest first, as the bytes of a little-endian number.
 // Python printed them: for b in range(256): print('0x%08x,' % sum((b >> 6 - 2 * j & 3) << 8 * j for j in range(4)))
 // Nobody has to believe them: one test is computed over all entries (proofs/BaseTable.antt).
@@ -48,7 +50,7 @@ const BASES: [u32; 256] = [
 fn two_entries(first: u32, second: u32) -> u64
     ensures { number_bytes little 8 result ≡ number_bytes little 4 first ++ number_bytes little 4 second }
 {
-    (first as u64) + (second as u64) * 4294967296
+    u64::from(first) + u64::from(second) * 4294967296
 }
 
 // The bases of two bytes, as the bytes of one number.
@@ -56,49 +58,45 @@ fn pair(table: &[u32], first: u8, second: u8) -> u64
     requires { BaseTable table.now }
     ensures { number_bytes little 8 result ≡ bases_of first ++ bases_of second }
 {
-    two_entries(table[first as usize], table[second as usize])
+    two_entries(table[usize::from(first)], table[usize::from(second)])
 }
 
-// Writes the bases of two bytes at a place of the output.
-fn put_pair(sequence: &[u8], at: usize, table: &[u32], out: &mut [u8], place: usize)
-    requires { (at + 2 ≤ length sequence.now) × (place + 8 ≤ length out.old) × BaseTable table.now }
-    ensures { out.new ≡ written_at place (two_bit_residues sequence.now at 8) out.old }
+// Writes the bases of two bytes, from a place on, at their place of the output.
+fn put_pair(bytes: &[u8], at: usize, table: &[u32], out: &mut [u8])
+    requires { (at + 2 ≤ length bytes.now) × (4 * at + 8 ≤ length out.old) × BaseTable table.now }
+    ensures { out.new ≡ written_at (4 * at) (two_bit_residues bytes.now at 8) out.old }
 {
-    let two = pair(table, sequence[at], sequence[at + 1]);
-    let end = place + 8;
-    fields::put_le_u64(&mut out[place..end], 0, two);
+    let two = pair(table, bytes[at], bytes[at + 1]);
+    let place = 4 * at;
+    two.put(Order::Little, &mut out[place..place + 8], 0);
 }
 
-// Writes the bases of eight bytes at a place of the output.
-fn put_eight(sequence: &[u8], at: usize, table: &[u32], out: &mut [u8], place: usize)
-    requires { (at + 8 ≤ length sequence.now) × (place + 32 ≤ length out.old) × BaseTable table.now }
-    ensures { out.new ≡ written_at place (two_bit_residues sequence.now at 32) out.old }
+// Writes the bases of eight bytes, from a place on, at their place of the output.
+fn put_eight(bytes: &[u8], at: usize, table: &[u32], out: &mut [u8])
+    requires { (at + 8 ≤ length bytes.now) × (4 * at + 32 ≤ length out.old) × BaseTable table.now }
+    ensures { out.new ≡ written_at (4 * at) (two_bit_residues bytes.now at 32) out.old }
 {
-    let mut i: usize = 0;
-    while i < 4 {
-        put_pair(sequence, at + 2 * i, table, out, place + 8 * i);
-        i += 1;
+    for i in 0..4 {
+        put_pair(bytes, at + 2 * i, table, out);
     }
 }
 
-// Writes the bases of at least eight whole bytes from a start on, eight at once; the last eight are whole too, and write some once more.
-fn write_eights(sequence: &[u8], start: usize, count: usize, table: &[u32], out: &mut [u8])
-    requires { (8 ≤ count) × (start + count ≤ length sequence.now) × (4 * count ≤ length out.old) × BaseTable table.now }
-    ensures { out.new ≡ written_at 0 (two_bit_residues sequence.now start (4 * count)) out.old }
+// Writes the bases of at least eight whole bytes, eight at once; the last eight are whole too, and write some once more.
+fn write_eights(bytes: &[u8], table: &[u32], out: &mut [u8])
+    requires { (8 ≤ length bytes.now) × (4 * length bytes.now ≤ length out.old) × BaseTable table.now }
+    ensures { out.new ≡ written_at 0 (two_bit_residues bytes.now 0 (4 * length bytes.now)) out.old }
 {
-    let mut m = 0;
-    while count - m >= 8 {
-        put_eight(sequence, start + m, table, out, 4 * m);
-        m += 8;
+    for block in 0..bytes.len() / 8 {
+        put_eight(bytes, 8 * block, table, out);
     }
-    let last = count - 8;
-    put_eight(sequence, start + last, table, out, 4 * last);
+    let last = bytes.len() - 8;
+    put_eight(bytes, last, table, out);
 }
 
-// Writes the bases of at least eight whole bytes from a start on, each byte's from the table, which is lent once for all of them.
-pub(crate) fn write_by_table(sequence: &[u8], start: usize, count: usize, out: &mut [u8])
-    requires { (8 ≤ count) × (start + count ≤ length sequence.now) × (4 * count ≤ length out.old) }
-    ensures { out.new ≡ written_at 0 (two_bit_residues sequence.now start (4 * count)) out.old }
+// Writes the bases of at least eight whole bytes, each byte's from the table, which is lent once for all of them.
+pub(crate) fn write_by_table(bytes: &[u8], out: &mut [u8])
+    requires { (8 ≤ length bytes.now) × (4 * length bytes.now ≤ length out.old) }
+    ensures { out.new ≡ written_at 0 (two_bit_residues bytes.now 0 (4 * length bytes.now)) out.old }
 {
-    write_eights(sequence, start, count, &BASES, out);
+    write_eights(bytes, &BASES, out);
 }

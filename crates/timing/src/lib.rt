@@ -11,10 +11,8 @@ ghost use Rattle.nucleotides.specs.Write.{write_answer, write_output, write_numb
 ghost use Rattle.timing.specs.Calls.{timed_set, set_results, sizes_put};
 
 use answers::Refusal;
-use dsqdata::SetAnswer;
-use nucleotides::WriteAnswer;
-use pages::PageAnswer;
-use sequence::DecodeAnswer;
+use fields::{Order, Unsigned};
+use pages::Stop;
 
 // The bytes that the results of a set check take.
 const CHECK_SET_RESULTS: usize = 88;
@@ -31,12 +29,8 @@ pub extern "C" fn gull_time_check_set(
     ensures results { results.new ≡ set_results (timed_set index.now metadata.now sequence.now (length results.old)) results.old }
 {
     match dsqdata::check_set(index, metadata, sequence) {
-        SetAnswer::Refused(r) => answers::number(r),
-        SetAnswer::Passed(set) => {
-            if results.len() < CHECK_SET_RESULTS {
-                return answers::number(Refusal::NoRoom);
-            }
-            let order = set.order;
+        Ok(_) if results.len() < CHECK_SET_RESULTS => u32::from(Refusal::NoRoom),
+        Ok(set) => {
             let values = [
                 set.magic as u64,
                 set.tag as u64,
@@ -48,11 +42,12 @@ pub extern "C" fn gull_time_check_set(
                 set.longest_sequence,
                 set.count,
                 set.residues,
-                dsqdata::order_number(order),
+                dsqdata::order_number(set.order),
             ];
             console::put_results(results, &values);
             0
         }
+        Err(r) => u32::from(r),
     }
 }
 
@@ -68,8 +63,8 @@ pub extern "C" fn gull_time_decode(
     ensures output { out.new ≡ decode_output index.now sequence.now number out.old }
 {
     match sequence::decode(index, sequence, number, out) {
-        DecodeAnswer::Refused(r) => answers::number(r),
-        DecodeAnswer::Decoded(_) => 0,
+        Ok(_) => 0,
+        Err(r) => u32::from(r),
     }
 }
 
@@ -89,13 +84,13 @@ pub extern "C" fn gull_time_fetch_page(
     ensures results { results.new ≡ number_put little 8 0 (page_done (page_answer index.now sequence.now numbers.now out.old ends.old)) results.old }
 {
     match pages::fetch_page(index, sequence, numbers, out, ends) {
-        PageAnswer::Stopped { refusal, done } => {
-            fields::put_le_u64(results, 0, done);
-            answers::number(refusal)
-        }
-        PageAnswer::Fetched(all) => {
-            fields::put_le_u64(results, 0, all);
+        Ok(all) => {
+            all.put(Order::Little, results, 0);
             0
+        }
+        Err(Stop { refusal, done }) => {
+            done.put(Order::Little, results, 0);
+            u32::from(refusal)
         }
     }
 }
@@ -112,11 +107,11 @@ pub extern "C" fn gull_time_write_nucleotides(
     ensures results { results.new ≡ sizes_put (write_answer codes.now (length out.old)) results.old }
 {
     match nucleotides::write_nucleotides(codes, out) {
-        WriteAnswer::Refused(r) => answers::number(r),
-        WriteAnswer::Written { two_bit, table } => {
-            fields::put_le_u64(results, 0, two_bit as u64);
-            fields::put_le_u64(results, 8, table as u64);
+        Ok(written) => {
+            (written.two_bit as u64).put(Order::Little, results, 0);
+            (written.table as u64).put(Order::Little, results, 8);
             0
         }
+        Err(refused) => u32::from(refused),
     }
 }

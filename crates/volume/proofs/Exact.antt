@@ -5,7 +5,7 @@ use mathlib.Core.Path.{◌≡◌, refl, sym, ap, ◌∙◌, subst}
 use mathlib.Core.Bool.{Bool, true, false, cond, ◌||◌}
 use mathlib.Core.List.{List, [], ◌++◌}
 use mathlib.Core.Logic.{◌⊎◌, inl, inr, ⊎_elim}
-use Prim.Native.Nat.{ℕ, ◌+◌, ◌-◌, ◌≤◌, ◌<◌}
+use Prim.Native.Nat.{ℕ, ◌+◌, ◌≤◌, ◌<◌}
 use native.Mathlib.Omega.{arith}
 use native.Mathlib.Nat.{le_antisymm}
 use borrow.Author.Tests.{leb-true, le-leb, eqb-true, eq-eqb}
@@ -21,9 +21,10 @@ use Rattle.laws.proofs.Rules.{verdict-passes, hold-append, hold-first, hold-seco
 use Rattle.laws.proofs.Signed.{le_test, test_le, lt_test, test_lt, eq_test, test_eq, at_least_zero, states_itself}
 use Rattle.laws.proofs.Tests.{never, both_pass}
 use Rattle.answers.specs.declared.Refusal.{Refusal}
+use Rattle.answers.proofs.Checks.{err-not_ok}
 use Rattle.answers.proofs.Numbers.{zero-passes}
 use Rattle.volume.specs.declared.VolumeRecord.{VolumeRecord}
-use Rattle.volume.specs.declared.VolumeAnswer.TheVariants.{Passed, Refused}
+use Rattle.std.specs.Prelude.{Ok, Err}
 use Rattle.volume.specs.Index.{stated_type, volume_type, is_type, is_protein, title_end, timestamp_end, timestamp_start, stated_sequences}
 use Rattle.volume.specs.Index.{sequences, most_sequences, residue_count, longest, table_size}
 use Rattle.volume.specs.Index.{header_table, sequence_table, ambiguity_table, tables_end, index_rules}
@@ -248,9 +249,6 @@ module _ (index sequence : List ℕ) where
 
 -- ---- the whole volume
 
-not-refused : (v : VolumeRecord) (r : Refusal) → Refused r ≡ Passed v → ⊥
-not-refused v r e = let z : ◌≡◌ {A = ℕ} 0 1 = cc in omega arith
-
 module _ (index sequence header : List ℕ) where
   sizes : List (Rule Refusal)
   sizes = volume_size_rules index sequence header
@@ -360,25 +358,25 @@ module _ (index sequence header : List ℕ) where
           (rw t (total_tests_back index (protein_length index) (totals_test index (protein_length index) d.totals)))
 
   -- A volume that passes keeps every rule, and what is returned is its record.
-  pub passed_rules : (v : VolumeRecord) → volume_answer index sequence header ≡ Passed v → VolumeHolds index sequence header × (v ≡ volume_record index)
+  pub passed_rules : (v : VolumeRecord) → volume_answer index sequence header ≡ Ok v → VolumeHolds index sequence header × (v ≡ volume_record index)
   unfolding volume_answer
   passed_rules v e =
-      let p = passes_with Refused (Passed (volume_record index)) (Passed v) (not-refused v) (volume_rules index sequence header) e in
+      let p = passes_with Err (Ok (volume_record index)) (Ok v) (λ r. err-not_ok r v) (volume_rules index sequence header) e in
       let q = p.1 in
       (holds_of (volume_parts p.0), cc)
 
   -- A volume that keeps every rule passes.
-  pub rules_pass : VolumeHolds index sequence header → volume_answer index sequence header ≡ Passed (volume_record index)
+  pub rules_pass : VolumeHolds index sequence header → volume_answer index sequence header ≡ Ok (volume_record index)
   unfolding volume_answer
-  rules_pass h = verdict-passes Refused (Passed (volume_record index)) (volume_rules index sequence header) (parts_volume (parts_of h))
+  rules_pass h = verdict-passes Err (Ok (volume_record index)) (volume_rules index sequence header) (parts_volume (parts_of h))
 
   -- ---- the same, by the answer's number and values
 
   -- The check answers 0 only where all rules of its list hold, and then returns the volume's record ..
   zero_passed : volume_number (volume_answer index sequence header) ≡ 0
-      → AllHold (volume_rules index sequence header) × (volume_answer index sequence header ≡ Passed (volume_record index))
+      → AllHold (volume_rules index sequence header) × (volume_answer index sequence header ≡ Ok (volume_record index))
   unfolding volume_answer
-  zero_passed h = zero-passes Refused (Passed (volume_record index)) volume_number (λ r. refl) (volume_rules index sequence header) h
+  zero_passed h = zero-passes Err (Ok (volume_record index)) volume_number (λ r. refl) (volume_rules index sequence header) h
 
   pub zero-all : volume_number (volume_answer index sequence header) ≡ 0 → AllHold (volume_rules index sequence header)
   zero-all h = (zero_passed h).0

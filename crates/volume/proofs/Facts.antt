@@ -1,13 +1,13 @@
--- What an index that was read says, NULs at the end of a timestamp, and where the tables lie. Assumes nothing.
-use mathlib.Core.Path.{◌≡◌, refl, sym, ap, ◌∙◌}
+-- What an index that was read says, and where the tables lie. Assumes nothing.
+use mathlib.Core.Path.{◌≡◌, refl, ap, ◌∙◌}
 use mathlib.Core.List.{List}
-use Prim.Native.Nat.{ℕ, zero, suc, ◌+◌, ◌-◌, ◌≤◌, ◌<◌}
+use Prim.Native.Nat.{ℕ, zero, suc, ◌+◌, ◌-◌, ◌≤◌}
 use mathlib.Core.Bool.{false}
 use native.Mathlib.Nat.{zero-add}
 use native.Mathlib.Omega.{arith}
-use borrow.Author.Tests.{leb-true, eq-eqb, ne_eqb}
-use lib.ListN.{length, get_or, take, drop}
-use lib.Seq.{get_or-take, get_or-drop}
+use borrow.Author.Tests.{leb-true}
+use lib.ListN.{length, get_or, take, drop, length-drop}
+use lib.Seq.{get_or-take, get_or-drop, length-take-le}
 use Rattle.laws.specs.Rules.{AllHold}
 use Rattle.laws.proofs.Choices.{cond_elim}
 use Rattle.fields.specs.Number.{big, number, bytes_at, signed, signed_at, unsigned_at}
@@ -17,18 +17,6 @@ use Rattle.volume.proofs.Named.{index_tests}
 
 pub few-sequences : (index : List ℕ) → AllHold (index_rules index) → sequences index ≤ most_sequences
 few-sequences index h = leb-true _ _ (index_tests index h).counts.few
-
--- ---- NULs at the end
-
-module _ (file : List ℕ) (start n : ℕ) (h : 0 < n) where
-  last : n ≡ suc (n - 1)
-  last = omega arith
-
-  pub trim_less : get_or file (start + (n - 1)) 0 ≡ 0 → trimmed_length file start n ≡ trimmed_length file start (n - 1)
-  trim_less e = ap (trimmed_length file start) last ∙ rw (eq-eqb _ _ e)
-
-  pub trim_stop : (get_or file (start + (n - 1)) 0 ≡ 0 → ⊥) → trimmed_length file start n ≡ n
-  trim_stop e = ap (trimmed_length file start) last ∙ rw (ne_eqb _ _ e) (sym last)
 
 -- ---- the tables of an index lie inside it
 
@@ -61,3 +49,18 @@ part_unsigned w file at end e = ap (number big) (part_bytes file at (end - at) w
 pub part_field : (file : List ℕ) (at end : ℕ) → end ≡ at + 4 → signed_at big 4 (take (end - at) (drop at file)) 0 ≡ signed_at big 4 file at
 unfolding signed_at
 part_field file at end e = ap (signed 4) (part_unsigned 4 file at end e)
+
+-- ---- NULs at the end of a part of the file
+
+trim_part : (file : List ℕ) (at n k : ℕ) → k ≤ n → trimmed_length (take n (drop at file)) 0 k ≡ trimmed_length file at k
+trim_part file at n zero h = refl
+trim_part file at n (suc k) h =
+    let byte : get_or (take n (drop at file)) (0 + k) 0 ≡ get_or file (at + k) 0 =
+    ap (λ (i : ℕ). get_or (take n (drop at file)) i 0) (zero-add k) ∙ get_or-take n (drop at file) k 0 (omega arith) ∙ get_or-drop at file k 0 in
+    rw (byte, trim_part file at n k (omega arith))
+
+pub trim_whole : (file : List ℕ) (at end : ℕ) → end ≤ length file
+    → trimmed_length (take (end - at) (drop at file)) 0 (length (take (end - at) (drop at file))) ≡ trimmed_length file at (end - at)
+trim_whole file at end h =
+    let e : length (take (end - at) (drop at file)) ≡ end - at = length-take-le (end - at) (drop at file) (omega (arith, length-drop at file)) in
+    rw e (trim_part file at (end - at) (end - at) (omega arith))

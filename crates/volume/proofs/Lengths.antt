@@ -9,12 +9,11 @@ use lib.ListN.{length, get_or}
 use lib.Signed.{non_neg}
 use Rattle.laws.specs.Rules.{AllHold}
 use Rattle.laws.specs.Signed.{to_nat}
-use Rattle.laws.specs.Places.{every, sum_to, largest_to}
+use Rattle.laws.specs.Places.{sum_to}
 use Rattle.laws.proofs.Places.{sum_more}
-use Rattle.answers.specs.Limits.{checked_by}
 use Rattle.volume.specs.Index.{sequences, sequence_table, ambiguity_table}
-use Rattle.volume.specs.Tables.{offset_at, ambiguity_between, sequence_start, protein_end, protein_length, two_bit_length, dna_end, dna_length}
-use Rattle.volume.specs.Tables.{protein_offset_rules, dna_offset_rules, stated_rules, totals_of}
+use Rattle.volume.specs.Tables.{offset_at, sequence_start, protein_end, protein_length, two_bit_length, dna_end, dna_length}
+use Rattle.volume.specs.Tables.{protein_offset_rules, dna_offset_rules}
 use Rattle.volume.proofs.Named.{nul_behind}
 use Rattle.volume.proofs.Natural.{protein_natural, protein-rises, protein_to, natural_start, natural_end, dna-rises, dna-inside}
 
@@ -37,15 +36,6 @@ dna-length index sequence k start end len e f g = g ∙ rw (e, f)
 -- a sum over the first i sequences, and one length more
 pub sum_step : (f : ℕ → ℕ) (i sum len : ℕ) → sum ≡ sum_to f i → len ≡ f i → sum + len ≡ sum_to f (i + 1)
 sum_step f i sum len e g = ap (λ (x : ℕ). x + len) e ∙ sum_more f i len g
-
--- a sum and a largest length, made over all sequences
-pub stated_at : (index : List ℕ) (f : ℕ → ℕ) (i sum largest : ℕ) → i ≡ sequences index → sum ≡ sum_to f i → largest ≡ largest_to f i
-    → checked_by (stated_rules index sum largest) ≡ checked_by (totals_of index f)
-stated_at index f i sum largest e s l = rw (s, l, e)
-
--- the steps between two tables whose places are known
-pub between_at : (index : List ℕ) (s : ℕ) {a b n m : ℕ} → a ≡ b → n ≡ m → every (ambiguity_between index s a) n ≡ every (ambiguity_between index s b) m
-between_at index s e f = rw (e, f)
 
 -- ---- a turn of the loop over the sequences of a protein volume whose offsets passed: S[i] is low, S[i+1] next
 

@@ -5,5 +5,4 @@ pub mod Facts
 pub mod Exact
 pub mod Reading
 pub mod Natural
-pub mod Offsets
 pub mod HeaderFile

@@ -6,7 +6,7 @@ use Prim.Native.Nat.{ℕ, suc, ◌+◌, ◌-◌, ◌≤◌, ◌<◌}
 use native.Mathlib.Omega.{arith}
 use borrow.Author.Tests.{leb-true}
 use lib.IntN.{ℤ, pos, negsuc}
-use lib.ListN.{length}
+use lib.ListN.{length, take, drop}
 use lib.Dec.{ltb}
 use lib.Signed.{lt_z, le_z, non_neg}
 use Rattle.laws.specs.Rules.{AllHold}
@@ -19,6 +19,8 @@ use Rattle.laws.proofs.Tests.{both_pass, never}
 use Rattle.fields.specs.Number.{big, unsigned_at, signed_at}
 use Rattle.volume.specs.Index.{sequences, sequence_table, ambiguity_table}
 use Rattle.volume.specs.Tables.{above, ambiguity_between, sequence_offset, ambiguity_offset, first_nucleotide_offset, protein_offset_rules, dna_offset_rules}
+use Rattle.volume.proofs.Facts.{part_unsigned}
+use Rattle.volume.proofs.Reading.{stated_below}
 use Rattle.volume.proofs.Named.{ProteinTests, protein_tests, DnaTests, dna_tests}
 
 -- ---- protein
@@ -130,3 +132,8 @@ natural_bits false n m e = never e
 pub natural_field : (file : List ℕ) (at : ℕ) → non_neg (signed_at big 4 file at) ≡ true → unsigned_at big 4 file at ≡ to_nat (signed_at big 4 file at)
 unfolding signed_at
 natural_field file at e = let u = unsigned_at big 4 file at in natural_bits (ltb u 2147483648) u (4294967296 - suc u) e
+
+-- the same for a part of the file that is the field's own bytes
+pub natural_part : (file : List ℕ) (at end : ℕ) → end ≡ at + 4 → non_neg (signed_at big 4 file at) ≡ true
+    → (unsigned_at big 4 (take (end - at) (drop at file)) 0 ≡ to_nat (signed_at big 4 file at)) × (to_nat (signed_at big 4 file at) < 2147483648)
+natural_part file at end e h = (part_unsigned 4 file at end e ∙ natural_field file at h, stated_below file at)

@@ -2,7 +2,7 @@
 use mathlib.Core.Path.{◌≡◌, refl, sym, ap, ◌∙◌}
 use mathlib.Core.Bool.{Bool, true, false, cond}
 use mathlib.Core.List.{List, ◌++◌}
-use Prim.Native.Nat.{ℕ, ◌+◌, ◌*◌, ◌-◌, ◌<◌}
+use Prim.Native.Nat.{ℕ, ◌<◌}
 use native.Mathlib.Omega.{arith}
 use borrow.Author.Tests.{ltb-true}
 use lib.Dec.{ltb}
@@ -11,25 +11,20 @@ use Rattle.laws.specs.Rules.{Rule, verdict, AllHold}
 use Rattle.laws.specs.Signed.{to_nat}
 use Rattle.laws.proofs.Passing.{passes_with}
 use Rattle.laws.proofs.Rules.{verdict-passes, verdict-append, refused_any}
-use Rattle.fields.specs.Number.{big, little, signed_at, unsigned_at}
+use Rattle.fields.specs.Number.{big, signed_at, unsigned_at}
 use Rattle.answers.specs.Limits.{bytes_fit}
+use Rattle.answers.proofs.Checks.{err-not_ok, err_cause}
 use Rattle.answers.specs.declared.Refusal.{Refusal}
 use Rattle.volume.specs.declared.Index.{Index}
-use Rattle.volume.specs.declared.IndexAnswer.TheVariants.{Read, Refused}
-use Rattle.volume.specs.Index.{volume_type, title_length, title_end, timestamp_length, timestamp_end, sequences, residue_count, longest}
+use Rattle.std.specs.Prelude.{Ok, Err}
+use Rattle.volume.specs.Index.{volume_type, title_length, title_end, timestamp_length, timestamp_end, sequences}
 use Rattle.volume.specs.Index.{header_table, sequence_table, ambiguity_table, index_rules, index_of, read_rules, index_answer}
-
-not-refused : (x : Index) (r : Refusal) → Refused r ≡ Read x → ⊥
-not-refused x r e = let z : ◌≡◌ {A = ℕ} 0 1 = cc in omega arith
-
-same-refusal : (r s : Refusal) → Refused s ≡ Refused r → s ≡ r
-same-refusal r s e = cc
 
 module _ (index : List ℕ) where
   -- the index was read: its rules hold, and its numbers are the definition's
-  pub index_read : (x : Index) → index_answer index ≡ Read x → AllHold (read_rules index) × (x ≡ index_of index)
+  pub index_read : (x : Index) → index_answer index ≡ Ok x → AllHold (read_rules index) × (x ≡ index_of index)
   index_read x e =
-      let p = passes_with Refused (Read (index_of index)) (Read x) (not-refused x) (read_rules index) e in
+      let p = passes_with Err (Ok (index_of index)) (Ok x) (λ r. err-not_ok r x) (read_rules index) e in
       let q = p.1 in
       (p.0, cc)
 
@@ -39,10 +34,10 @@ module _ (index : List ℕ) where
     index_first h = verdict-append told fine (read_rules index) more ∙ verdict-passes told (verdict told fine more) (read_rules index) h
 
     -- the index was refused: that decides
-    pub index_refused : (r : Refusal) → index_answer index ≡ Refused r → verdict told fine (read_rules index ++ more) ≡ told r
+    pub index_refused : (r : Refusal) → index_answer index ≡ Err r → verdict told fine (read_rules index ++ more) ≡ told r
     index_refused r e =
         verdict-append told fine (read_rules index) more
-        ∙ refused_any Refused (Read (index_of index)) (read_rules index) r (same-refusal r) (λ n. not-refused (index_of index) r (sym n)) e told
+        ∙ refused_any Err (Ok (index_of index)) (read_rules index) r (err_cause r) (λ n. err-not_ok r (index_of index) (sym n)) e told
         (verdict told fine more)
 
 -- ---- places
@@ -89,6 +84,7 @@ pub record NumbersAre (index : List ℕ) (x : Index) : Type 0 where
   pub title_is : x.title_length ≡ title_length index
   pub timestamp_is : x.timestamp_length ≡ timestamp_length index
   pub sequences_is : x.sequences ≡ sequences index
+  pub starts_is : x.sequence_table ≡ sequence_table index
   pub ambiguities_is : x.ambiguity_table ≡ ambiguity_table index
 
 pub numbers_are : (index : List ℕ) (x : Index) → x ≡ index_of index → NumbersAre index x
@@ -98,34 +94,9 @@ numbers_are index x e = record {
   title_is = ap (λ (y : Index). y.title_length) e;
   timestamp_is = ap (λ (y : Index). y.timestamp_length) e;
   sequences_is = ap (λ (y : Index). y.sequences) e;
+  starts_is = ap (λ (y : Index). y.sequence_table) e;
   ambiguities_is = ap (λ (y : Index). y.ambiguity_table) e;
 }
-
--- each number, read at the place that those before it give
-pub numbers_read : (index : List ℕ) (kind title timestamp n count long : ℕ) → kind ≡ volume_type index → title ≡ title_length index
-    → timestamp ≡ to_nat (signed_at big 4 index (12 + title)) → let at = 12 + title + 4 + timestamp in n ≡ to_nat (signed_at big 4 index at)
-    → count ≡ to_nat (signed_at little 8 index (at + 4)) → long ≡ to_nat (signed_at big 4 index (at + 12))
-    → let header = at + 16 in
-    let size = 4 * (n + 1) in
-    ◌≡◌ {A = Index} record {
-      kind = kind;
-      title_length = title;
-      timestamp_length = timestamp;
-      sequences = n;
-      residues = count;
-      longest = long;
-      header_table = header;
-      sequence_table = header + size;
-      ambiguity_table = header + size + size;
-    }
-    (index_of index)
-unfolding index_of timestamp_length sequences residue_count longest
-numbers_read index kind title timestamp n count long a b c d e f =
-    let g : timestamp ≡ timestamp_length index = rw b at c in
-    let h : n ≡ sequences index = rw (b, g) at d in
-    let i : count ≡ residue_count index = rw (b, g) at e in
-    let j : long ≡ longest index = rw (b, g) at f in
-    rw (a, b, g, h, i, j)
 
 -- the size of an index that was asked before
 pub size_asked : {B : Type 0} (index : List ℕ) (told : Refusal → B) (fine : B) (more : List (Rule Refusal)) → bytes_fit index ≡ true

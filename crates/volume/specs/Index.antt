@@ -1,7 +1,7 @@
 -- A volume's index: its fields, each at the place that the fields before it give, and the rules of the fixed fields in the
 -- order of document 01. A field that lies past the end of the file reads as 0, so every definition has a value on every file.
 -- Assumes nothing.
-use Rattle.std.specs.Prelude.{Bool, cond, ◌||◌, List, [], ◌∷◌, ◌++◌, ℕ, ◌+◌, ◌*◌, ◌%◌, leb, eqb, ℤ, pos, length}
+use Rattle.std.specs.Prelude.{Bool, cond, ◌||◌, List, [], ◌∷◌, ◌++◌, ℕ, ◌+◌, ◌*◌, ◌%◌, leb, eqb, ℤ, pos, length, Result, Ok, Err}
 use Rattle.std.specs.Int.Signed.{non_neg}
 use Rattle.laws.specs.Rules.{Rule, ask, verdict}
 use Rattle.laws.specs.Signed.{to_nat, eq_z}
@@ -11,8 +11,6 @@ use Rattle.answers.specs.Numbers.{number_of}
 use Rattle.answers.specs.declared.Refusal.{Refusal}
 use Rattle.answers.specs.declared.Refusal.TheVariants.{TooShort, WrongVersion, WrongKind, OutOfRange, Misaligned, Leftover, TooLarge}
 use Rattle.volume.specs.declared.Index.{Index}
-use Rattle.volume.specs.declared.IndexAnswer.{IndexAnswer}
-use Rattle.volume.specs.declared.IndexAnswer.TheVariants.{Read, Refused}
 
 -- ---- the fields, in the order of the file; integers are big-endian and signed, four bytes
 
@@ -172,13 +170,13 @@ abbrev pub read_rules : List ℕ → List (Rule Refusal)
 read_rules index = ask (bytes_fit index) TooLarge ∷ index_rules index
 
 -- An index read: its numbers where the rules hold.
-abbrev pub index_answer : List ℕ → IndexAnswer
-index_answer index = verdict Refused (Read (index_of index)) (read_rules index)
+abbrev pub index_answer : List ℕ → Result Index Refusal
+index_answer index = verdict Err (Ok (index_of index)) (read_rules index)
 
 -- Document 01's number of an answer, and its values: the numbers of the index, and where its tables start.
-abbrev pub index_number : IndexAnswer → ℕ
-index_number (Read x) = 0
-index_number (Refused r) = number_of r
+abbrev pub index_number : Result Index Refusal → ℕ
+index_number (Ok x) = 0
+index_number (Err r) = number_of r
 
 abbrev pub index_numbers : Index → List ℕ
 index_numbers x =
@@ -193,6 +191,6 @@ index_numbers x =
     ∷ x.ambiguity_table
     ∷ []
 
-abbrev pub index_values : IndexAnswer → List ℕ
-index_values (Read x) = index_numbers x
-index_values (Refused r) = []
+abbrev pub index_values : Result Index Refusal → List ℕ
+index_values (Ok x) = index_numbers x
+index_values (Err r) = []

@@ -1,6 +1,6 @@
 -- The offsets of a volume, and the rules of its tables, over the whole volume: all of 7 before 8, and 8 before 9.
 -- Assumes nothing.
-use Rattle.std.specs.Prelude.{Bool, cond, ◌&&◌, List, [], ◌∷◌, ◌++◌, ℕ, ◌+◌, ◌*◌, ◌-◌, ◌%◌, eqb, ltb, ℤ, pos, length, get_or}
+use Rattle.std.specs.Prelude.{◌≡◌, Bool, cond, ◌&&◌, List, [], ◌∷◌, ◌++◌, ℕ, ◌+◌, ◌*◌, ◌-◌, ◌%◌, ◌<◌, eqb, ltb, ℤ, pos, length, get_or}
 use Rattle.std.specs.Int.Signed.{lt_z, le_z}
 use Rattle.laws.specs.Places.{every, sum_to, largest_to}
 use Rattle.laws.specs.Rules.{Rule, ask}
@@ -35,6 +35,10 @@ not_below index table k = le_z (offset_at index table k) (offset_at index table 
 
 abbrev pub above : List ℕ → ℕ → ℕ → Bool
 above index table k = lt_z (offset_at index table k) (offset_at index table (k + 1))
+
+-- The call of a test for each of n offsets and the one behind it answers what `test` has there.
+abbrev pub StepsTell : (ℕ → ℤ) → (ℤ → ℤ → Bool → Type 0) → (ℕ → Bool) → ℕ → Type 0
+StepsTell offset answers test n = (k : ℕ) (answer : Bool) → k < n → answers (offset k) (offset (k + 1)) answer → answer ≡ test k
 
 -- S[k] < A[k] <= S[k+1], for the tables at two places.
 abbrev pub ambiguity_between : List ℕ → ℕ → ℕ → ℕ → Bool

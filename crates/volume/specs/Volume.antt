@@ -1,14 +1,12 @@
 -- The check of a whole volume: its rules in the order of document 01, and what it returns.
 -- Assumes nothing.
-use Rattle.std.specs.Prelude.{cond, List, [], ◌∷◌, ◌++◌, ℕ, zero, suc, ◌+◌, eqb, get_or}
+use Rattle.std.specs.Prelude.{cond, List, [], ◌∷◌, ◌++◌, ℕ, zero, suc, ◌+◌, eqb, get_or, Result, Ok, Err}
 use Rattle.laws.specs.Rules.{Rule, ask, verdict}
 use Rattle.answers.specs.Limits.{bytes_fit}
 use Rattle.answers.specs.Numbers.{number_of}
 use Rattle.answers.specs.declared.Refusal.{Refusal}
 use Rattle.answers.specs.declared.Refusal.TheVariants.{TooLarge}
 use Rattle.volume.specs.declared.VolumeRecord.{VolumeRecord}
-use Rattle.volume.specs.declared.VolumeAnswer.{VolumeAnswer}
-use Rattle.volume.specs.declared.VolumeAnswer.TheVariants.{Passed, Refused}
 use Rattle.volume.specs.Index.{volume_type, title_start, title_length, timestamp_start, timestamp_length, sequences, residue_count, longest, index_rules}
 use Rattle.volume.specs.Tables.{offset_rules, separator_rules, total_rules}
 
@@ -43,13 +41,13 @@ volume_record index =
     }
 
 -- The answer of the check.
-unfoldable pub volume_answer : List ℕ → List ℕ → List ℕ → VolumeAnswer
-volume_answer index sequence header = verdict Refused (Passed (volume_record index)) (volume_rules index sequence header)
+unfoldable pub volume_answer : List ℕ → List ℕ → List ℕ → Result VolumeRecord Refusal
+volume_answer index sequence header = verdict Err (Ok (volume_record index)) (volume_rules index sequence header)
 
 -- Document 01's number of an answer, and its values.
-abbrev pub volume_number : VolumeAnswer → ℕ
-volume_number (Passed v) = 0
-volume_number (Refused r) = number_of r
+abbrev pub volume_number : Result VolumeRecord Refusal → ℕ
+volume_number (Ok v) = 0
+volume_number (Err r) = number_of r
 
 abbrev pub record_values : VolumeRecord → List ℕ
 record_values v =
@@ -63,6 +61,6 @@ record_values v =
     ∷ v.timestamp_length
     ∷ []
 
-abbrev pub volume_values : VolumeAnswer → List ℕ
-volume_values (Passed v) = record_values v
-volume_values (Refused r) = []
+abbrev pub volume_values : Result VolumeRecord Refusal → List ℕ
+volume_values (Ok v) = record_values v
+volume_values (Err r) = []

@@ -1,56 +1,25 @@
 // The tables of offsets and the lengths of the sequences, and their rules.
-ghost use Rattle.std.specs.Prelude.{◌≡◌, true, ◌&&◌, ◌++◌, ◌+◌, ◌-◌, ◌*◌, ◌≤◌, ◌<◌, max, length, pos};
+ghost use Rattle.std.specs.Prelude.{◌≡◌, Bool, ℕ, true, false, ◌&&◌, ◌++◌, ◌+◌, ◌-◌, ◌*◌, ◌≤◌, ◌<◌, max, length, pos};
 ghost use Rattle.std.specs.Int.Signed.{non_neg};
 ghost use Rattle.laws.specs.Places.{every};
 ghost use Rattle.laws.specs.Rules.{AllHold};
 ghost use Rattle.laws.specs.Signed.{to_nat, eq_z};
 ghost use Rattle.answers.specs.Limits.{checked_by};
-ghost use Rattle.volume.specs.Index.{sequences, table_size, sequence_table, ambiguity_table, tables_end};
-ghost use Rattle.volume.specs.Tables.{offset_at, not_below, above, ambiguity_between, header_offset_rules, protein_offset_rules};
+ghost use Rattle.volume.specs.Index.{is_protein, index_of, tables_end};
+ghost use Rattle.volume.specs.Tables.{offset_at, StepsTell, ambiguity_between, header_offset_rules, protein_offset_rules};
 ghost use Rattle.volume.specs.Tables.{dna_offset_rules, sequence_offset_rules, offset_rules, protein_length, two_bit_length, dna_length};
 ghost use Rattle.volume.specs.Tables.{protein_separator_rules, separator_rules, stated_rules, totals_of, total_rules};
 
-use super::fixed::{
-    ambiguity_table, is_protein, longest_length, residue_count, sequence_count, sequence_table,
-    states_at, timestamp_end,
-};
-use answers::{Checked, Refusal};
-use fields::natural_at;
+use super::Index;
+use super::fixed::states_at;
+use answers::Refusal;
+use fields::{Order, natural_at, read};
 
 // The first offset of a nucleotide file.
 const FIRST_NUCLEOTIDE_OFFSET: usize = 0;
 
-// The difference of two places; 0 where it would be negative.
-pub(crate) fn minus(a: usize, b: usize) -> usize
-    ensures { result ≡ a - b }
-{
-    if a < b {
-        return 0;
-    }
-    a - b
-}
-
-// The larger of two lengths.
-fn larger(a: usize, b: usize) -> usize
-    ensures { result ≡ max a b }
-{
-    if a < b {
-        return b;
-    }
-    a
-}
-
-// Offset k of the table at a place, where it lies inside the index.
-fn offset(index: &[u8], table: usize, k: usize) -> i32
-    requires { table + 4 * k + 4 ≤ length index.now }
-    ensures { result ≡ offset_at index.now table k }
-{
-    let start = table + 4 * k;
-    let end = start + 4;
-    fields::be_i32(&index[start..end], 0)
-}
-
 // The place that offset k of the table at a place states.
+#[tactic(auto, unfolding(crate::specs::Tables::offset_at))]
 pub(crate) fn place(index: &[u8], table: usize, k: usize) -> usize
     requires { (table < 34359738368) × (k ≤ 2147483648) }
     ensures value { result ≡ to_nat (offset_at index.now table k) }
@@ -59,261 +28,278 @@ pub(crate) fn place(index: &[u8], table: usize, k: usize) -> usize
     natural_at(index, table + 4 * k)
 }
 
-// The same where the offset lies inside the index and is not negative.
-fn natural_place(index: &[u8], table: usize, k: usize) -> usize
-    requires { (table + 4 * k + 4 ≤ length index.now) × (non_neg (offset_at index.now table k) ≡ true) }
-    ensures value { result ≡ to_nat (offset_at index.now table k) }
-    ensures small { result < 2147483648 }
-{
-    let start = table + 4 * k;
-    let end = start + 4;
-    fields::be_u32(&index[start..end], 0) as usize
+// A table of offsets inside an index: where it starts, and how many steps it has from one offset to the next.
+#[derive(Clone, Copy)]
+struct Table<'a> {
+    index: &'a [u8],
+    start: usize,
+    steps: usize,
+    ghost inside: { start + 4 * (steps + 1) ≤ length index.now },
 }
 
-// Whether offset k of the table at a place is a given size.
-fn offset_is(index: &[u8], table: usize, k: usize, size: usize) -> bool
-    requires { (table < 34359738368) × (k ≤ 2147483648) }
-    ensures { result ≡ eq_z (offset_at index.now table k) (pos size) }
-{
-    states_at(index, table + 4 * k, size)
-}
+impl Table<'_> {
+    // Offset k.
+    #[tactic(auto, using(crate::proofs::Facts::part_field), unfolding(crate::specs::Tables::offset_at))]
+    fn offset(&self, k: usize) -> i32
+        requires { k ≤ self.now.steps }
+        ensures { result ≡ offset_at self.now.index.now self.now.start k }
+    {
+        let at = self.start + 4 * k;
+        let end = at + 4;
+        read(Order::Big, &self.index[at..end], 0)
+    }
 
-// Whether two tests both pass.
-fn both(a: bool, b: bool) -> bool
-    ensures { result ≡ (a && b) }
-{
-    if a {
-        return b;
+    // The place that offset k states, where it is not negative.
+    #[tactic(auto, using(crate::proofs::Natural::natural_part), unfolding(crate::specs::Tables::offset_at))]
+    fn place(&self, k: usize) -> usize
+        requires { (k ≤ self.now.steps) × (non_neg (offset_at self.now.index.now self.now.start k) ≡ true) }
+        ensures value { result ≡ to_nat (offset_at self.now.index.now self.now.start k) }
+        ensures small { result < 2147483648 }
+    {
+        let at = self.start + 4 * k;
+        let end = at + 4;
+        read::<u32>(Order::Big, &self.index[at..end], 0) as usize
     }
-    false
-}
 
-// Whether none of n + 1 offsets is below the one before. The loops over offsets have no early end, so that the compiler asks several
-// offsets at a time.
-fn never_falls(index: &[u8], table: usize, n: usize) -> bool
-    requires { table + 4 * (n + 1) ≤ length index.now }
-    ensures { result ≡ every (not_below index.now table) n }
-{
-    let mut good = true;
-    let mut low = offset(index, table, 0);
-    let mut i = 0;
-    while i < n {
-        let next = offset(index, table, i + 1);
-        good = both(good, low <= next);
-        low = next;
-        i += 1;
+    // Whether offset k is a given size.
+    #[tactic(auto, unfolding(crate::specs::Tables::offset_at))]
+    fn states(&self, k: usize, size: usize) -> bool
+        requires { k ≤ self.now.steps }
+        ensures { result ≡ eq_z (offset_at self.now.index.now self.now.start k) (pos size) }
+    {
+        states_at(self.index, self.start + 4 * k, size)
     }
-    good
-}
 
-// Whether each of n + 1 offsets is above the one before.
-fn rises(index: &[u8], table: usize, n: usize) -> bool
-    requires { table + 4 * (n + 1) ≤ length index.now }
-    ensures { result ≡ every (above index.now table) n }
-{
-    let mut good = true;
-    let mut low = offset(index, table, 0);
-    let mut i = 0;
-    while i < n {
-        let next = offset(index, table, i + 1);
-        good = both(good, low < next);
-        low = next;
-        i += 1;
-    }
-    good
-}
-
-// Whether S[k] < A[k] <= S[k+1] for each k below n, for the tables at two places.
-fn ambiguity_between(index: &[u8], s: usize, a: usize, n: usize) -> bool
-    requires { (s + 4 * (n + 1) ≤ length index.now) × (a + 4 * (n + 1) ≤ length index.now) }
-    ensures { result ≡ every (ambiguity_between index.now s a) n }
-{
-    let mut good = true;
-    let mut low = offset(index, s, 0);
-    let mut i = 0;
-    while i < n {
-        let middle = offset(index, a, i);
-        let next = offset(index, s, i + 1);
-        good = both(good, both(low < middle, middle <= next));
-        low = next;
-        i += 1;
-    }
-    good
-}
-
-// The header offsets.
-fn check_header_offsets(index: &[u8], header: &[u8]) -> Checked
-    requires { sequence_table index.now ≤ length index.now }
-    ensures { result ≡ checked_by (header_offset_rules index.now header.now) }
-{
-    let table = timestamp_end(index) + 16;
-    let n = sequence_count(index);
-    if !offset_is(index, table, 0, 0) {
-        return Checked::Refused(Refusal::BadOffsets);
-    }
-    if !never_falls(index, table, n) {
-        return Checked::Refused(Refusal::BadOffsets);
-    }
-    if !offset_is(index, table, n, header.len()) {
-        return Checked::Refused(Refusal::BadOffsets);
-    }
-    Checked::Passed
-}
-
-// The sequence offsets of a protein volume.
-fn check_protein_offsets(index: &[u8], sequence: &[u8]) -> Checked
-    requires { ambiguity_table index.now ≤ length index.now }
-    ensures { result ≡ checked_by (protein_offset_rules index.now sequence.now) }
-{
-    let table = sequence_table(index);
-    let n = sequence_count(index);
-    if !offset_is(index, table, 0, 1) {
-        return Checked::Refused(Refusal::BadOffsets);
-    }
-    if !rises(index, table, n) {
-        return Checked::Refused(Refusal::BadOffsets);
-    }
-    if !offset_is(index, table, n, sequence.len()) {
-        return Checked::Refused(Refusal::BadOffsets);
-    }
-    Checked::Passed
-}
-
-// The sequence and ambiguity offsets of a DNA volume.
-fn check_dna_offsets(index: &[u8], sequence: &[u8]) -> Checked
-    requires { ambiguity_table index.now + table_size index.now ≤ length index.now }
-    ensures { result ≡ checked_by (dna_offset_rules index.now sequence.now) }
-{
-    let s = sequence_table(index);
-    let a = ambiguity_table(index);
-    let n = sequence_count(index);
-    if !offset_is(index, s, 0, FIRST_NUCLEOTIDE_OFFSET) {
-        return Checked::Refused(Refusal::BadOffsets);
-    }
-    if !ambiguity_between(index, s, a, n) {
-        return Checked::Refused(Refusal::BadOffsets);
-    }
-    if !offset_is(index, s, n, sequence.len()) {
-        return Checked::Refused(Refusal::BadOffsets);
-    }
-    if !offset_is(index, a, n, sequence.len()) {
-        return Checked::Refused(Refusal::BadOffsets);
-    }
-    Checked::Passed
-}
-
-fn check_sequence_offsets(index: &[u8], sequence: &[u8]) -> Checked
-    requires { tables_end index.now ≤ length index.now }
-    ensures { result ≡ checked_by (sequence_offset_rules index.now sequence.now) }
-{
-    if is_protein(index) {
-        return check_protein_offsets(index, sequence);
-    }
-    check_dna_offsets(index, sequence)
-}
-
-// All offsets, 7.
-fn check_offsets(index: &[u8], sequence: &[u8], header: &[u8]) -> Checked
-    requires { tables_end index.now ≤ length index.now }
-    ensures { result ≡ checked_by (offset_rules index.now sequence.now header.now) }
-{
-    if let Checked::Refused(r) = check_header_offsets(index, header) {
-        return Checked::Refused(r);
-    }
-    check_sequence_offsets(index, sequence)
-}
-
-// A sum of lengths and a largest length against the stated ones, 9.
-fn check_stated(index: &[u8], sum: usize, largest: usize) -> Checked
-    ensures { result ≡ checked_by (stated_rules index.now sum largest) }
-{
-    if sum != residue_count(index) {
-        return Checked::Refused(Refusal::WrongTotals);
-    }
-    if largest != longest_length(index) {
-        return Checked::Refused(Refusal::WrongTotals);
-    }
-    Checked::Passed
-}
-
-// The separators and the lengths of a protein volume, 8 and 9. The offsets rise from 1 to the file's length, so no test asks
-// for that again.
-fn check_protein_lengths(index: &[u8], sequence: &[u8]) -> Checked
-    requires { (sequences index.now ≤ 134217728) × (ambiguity_table index.now ≤ length index.now) × AllHold (protein_offset_rules index.now sequence.now) }
-    ensures { result ≡ checked_by (protein_separator_rules index.now sequence.now ++ totals_of index.now (protein_length index.now)) }
-{
-    if fields::byte(sequence, 0) != 0 {
-        return Checked::Refused(Refusal::BadSeparator);
-    }
-    let table = sequence_table(index);
-    let n = sequence_count(index);
-    let mut low = natural_place(index, table, 0);
-    let mut sum: usize = 0;
-    let mut largest: usize = 0;
-    let mut i = 0;
-    while i < n {
-        let next = natural_place(index, table, i + 1);
-        let end = next - 1;
-        if sequence[end] != 0 {
-            return Checked::Refused(Refusal::BadSeparator);
+    // Whether each offset but the last passes a test with the one behind it. The loops over offsets have no early end, so that the
+    // compiler asks several offsets at a time.
+    fn each_step<F: Fn(i32, i32) -> bool>(&self, passes: F) -> bool
+        requires { F.IsAlwaysCallable passes }
+        ensures { (test : ℕ → Bool) → StepsTell (offset_at self.now.index.now self.now.start) (F.post passes) test self.now.steps → result ≡ every test self.now.steps }
+    {
+        let mut good = true;
+        let mut low = self.offset(0);
+        for i in 0..self.steps {
+            let next = self.offset(i + 1);
+            good &= passes(low, next);
+            low = next;
         }
-        let len = end - low;
-        sum += len;
-        largest = larger(largest, len);
-        low = next;
-        i += 1;
+        good
     }
-    check_stated(index, sum, largest)
+
+    // Whether S[k] < A[k] <= S[k+1] for each k but the last, of this table S and a table A of the same index.
+    fn ambiguity_between(&self, ends: &Self) -> bool
+        requires index { ends.now.index.now ≡ self.now.index.now }
+        requires steps { ends.now.steps ≡ self.now.steps }
+        ensures { result ≡ every (ambiguity_between self.now.index.now self.now.start ends.now.start) self.now.steps }
+    {
+        let mut good = true;
+        let mut low = self.offset(0);
+        for i in 0..self.steps {
+            let middle = ends.offset(i);
+            let next = self.offset(i + 1);
+            good &= (low < middle) & (middle <= next);
+            low = next;
+        }
+        good
+    }
 }
 
 // The length of the two-bit bytes from a start up to an end.
 pub fn two_bit_length(sequence: &[u8], start: u32, end: u32) -> usize
     ensures { result ≡ two_bit_length sequence.now start end }
 {
-    let last = minus(end as usize, 1);
-    4 * minus(last, start as usize) + (fields::byte(sequence, last) % 4) as usize
+    let last = (end as usize).saturating_sub(1);
+    4 * last.saturating_sub(start as usize) + (fields::byte(sequence, last) % 4) as usize
 }
 
-// The lengths of a DNA volume, 9. Each sequence has bytes inside the file, so no test asks for that again.
-fn check_dna_lengths(index: &[u8], sequence: &[u8]) -> Checked
-    requires { (sequences index.now ≤ 134217728) × (ambiguity_table index.now + table_size index.now ≤ length index.now) × AllHold (dna_offset_rules index.now sequence.now) }
-    ensures { result ≡ checked_by (totals_of index.now (dna_length index.now sequence.now)) }
-{
-    let s = sequence_table(index);
-    let a = ambiguity_table(index);
-    let n = sequence_count(index);
-    let mut sum: usize = 0;
-    let mut largest: usize = 0;
-    let mut i = 0;
-    while i < n {
-        let start = natural_place(index, s, i);
-        let last = natural_place(index, a, i) - 1;
-        let len = 4 * (last - start) + (sequence[last] % 4) as usize;
-        sum += len;
-        largest = larger(largest, len);
-        i += 1;
-    }
-    check_stated(index, sum, largest)
+// An index whose fields kept their rules, with its numbers: its tables lie inside it.
+#[derive(Clone, Copy)]
+pub(crate) struct Tables<'a> {
+    pub(crate) index: &'a [u8],
+    pub(crate) numbers: Index,
+    ghost read: { numbers ≡ index_of index.now },
+    ghost few: { numbers.sequences ≤ 134217728 },
+    ghost whole: { tables_end index.now ≤ length index.now },
 }
 
-// Separators and totals, 8 and 9.
-fn check_lengths(index: &[u8], sequence: &[u8]) -> Checked
-    requires { (sequences index.now ≤ 134217728) × (tables_end index.now ≤ length index.now) × AllHold (sequence_offset_rules index.now sequence.now) }
-    ensures { result ≡ checked_by (separator_rules index.now sequence.now ++ total_rules index.now sequence.now) }
-{
-    if is_protein(index) {
-        return check_protein_lengths(index, sequence);
+#[tactic(auto, using(crate::proofs::Facts::two_tables, crate::proofs::Facts::third_table, crate::proofs::Reading::tables_near), unfolding(crate::specs::Index::index_of))]
+impl Tables<'_> {
+    fn is_protein(&self) -> bool
+        ensures { result ≡ is_protein self.now.index.now }
+    {
+        self.numbers.kind == 1
     }
-    check_dna_lengths(index, sequence)
-}
 
-// What the tables and the files say, 7 to 9.
-pub(crate) fn check_contents(index: &[u8], sequence: &[u8], header: &[u8]) -> Checked
-    requires { (sequences index.now ≤ 134217728) × (tables_end index.now ≤ length index.now) }
-    ensures { result ≡ checked_by (offset_rules index.now sequence.now header.now ++ (separator_rules index.now sequence.now ++ total_rules index.now sequence.now)) }
-{
-    if let Checked::Refused(r) = check_offsets(index, sequence, header) {
-        return Checked::Refused(r);
+    // The header offsets.
+    fn check_header_offsets(&self, header: &[u8]) -> Result<(), Refusal>
+        ensures { result ≡ checked_by (header_offset_rules self.now.index.now header.now) }
+    {
+        let n = self.numbers.sequences;
+        let table = Table {
+            index: self.index,
+            start: self.numbers.header_table,
+            steps: n,
+        };
+        if !table.states(0, 0)
+            || !table.each_step(|low, next| low <= next)
+            || !table.states(n, header.len())
+        {
+            return Err(Refusal::BadOffsets);
+        }
+        Ok(())
     }
-    check_lengths(index, sequence)
+
+    // The sequence offsets of a protein volume.
+    fn check_protein_offsets(&self, sequence: &[u8]) -> Result<(), Refusal>
+        ensures { result ≡ checked_by (protein_offset_rules self.now.index.now sequence.now) }
+    {
+        let n = self.numbers.sequences;
+        let table = Table {
+            index: self.index,
+            start: self.numbers.sequence_table,
+            steps: n,
+        };
+        if !table.states(0, 1)
+            || !table.each_step(|low, next| low < next)
+            || !table.states(n, sequence.len())
+        {
+            return Err(Refusal::BadOffsets);
+        }
+        Ok(())
+    }
+
+    // The sequence and ambiguity offsets of a DNA volume.
+    fn check_dna_offsets(&self, sequence: &[u8]) -> Result<(), Refusal>
+        requires { is_protein self.now.index.now ≡ false }
+        ensures { result ≡ checked_by (dna_offset_rules self.now.index.now sequence.now) }
+    {
+        let n = self.numbers.sequences;
+        let starts = Table {
+            index: self.index,
+            start: self.numbers.sequence_table,
+            steps: n,
+        };
+        let ends = Table {
+            index: self.index,
+            start: self.numbers.ambiguity_table,
+            steps: n,
+        };
+        if !starts.states(0, FIRST_NUCLEOTIDE_OFFSET)
+            || !starts.ambiguity_between(&ends)
+            || !starts.states(n, sequence.len())
+            || !ends.states(n, sequence.len())
+        {
+            return Err(Refusal::BadOffsets);
+        }
+        Ok(())
+    }
+
+    fn check_sequence_offsets(&self, sequence: &[u8]) -> Result<(), Refusal>
+        ensures { result ≡ checked_by (sequence_offset_rules self.now.index.now sequence.now) }
+    {
+        if self.is_protein() {
+            self.check_protein_offsets(sequence)
+        } else {
+            self.check_dna_offsets(sequence)
+        }
+    }
+
+    // All offsets, 7.
+    fn check_offsets(&self, sequence: &[u8], header: &[u8]) -> Result<(), Refusal>
+        ensures { result ≡ checked_by (offset_rules self.now.index.now sequence.now header.now) }
+    {
+        self.check_header_offsets(header)?;
+        self.check_sequence_offsets(sequence)
+    }
+
+    // A sum of lengths and a largest length against the stated ones, 9.
+    fn check_stated(&self, sum: usize, largest: usize) -> Result<(), Refusal>
+        ensures { result ≡ checked_by (stated_rules self.now.index.now sum largest) }
+    {
+        if sum != self.numbers.residues || largest != self.numbers.longest {
+            return Err(Refusal::WrongTotals);
+        }
+        Ok(())
+    }
+
+    // The separators and the lengths of a protein volume, 8 and 9. The offsets rise from 1 to the file's length, so no test asks
+    // for that again.
+    fn check_protein_lengths(&self, sequence: &[u8]) -> Result<(), Refusal>
+        requires { AllHold (protein_offset_rules self.now.index.now sequence.now) }
+        ensures { result ≡ checked_by (protein_separator_rules self.now.index.now sequence.now ++ totals_of self.now.index.now (protein_length self.now.index.now)) }
+    {
+        if fields::byte(sequence, 0) != 0 {
+            return Err(Refusal::BadSeparator);
+        }
+        let n = self.numbers.sequences;
+        let table = Table {
+            index: self.index,
+            start: self.numbers.sequence_table,
+            steps: n,
+        };
+        let mut low = table.place(0);
+        let mut sum = 0;
+        let mut largest: usize = 0;
+        for i in 0..n {
+            let next = table.place(i + 1);
+            let end = next - 1;
+            if sequence[end] != 0 {
+                return Err(Refusal::BadSeparator);
+            }
+            let len = end - low;
+            sum += len;
+            largest = largest.max(len);
+            low = next;
+        }
+        self.check_stated(sum, largest)
+    }
+
+    // The lengths of a DNA volume, 9. Each sequence has bytes inside the file, so no test asks for that again.
+    fn check_dna_lengths(&self, sequence: &[u8]) -> Result<(), Refusal>
+        requires dna { is_protein self.now.index.now ≡ false }
+        requires offsets { AllHold (dna_offset_rules self.now.index.now sequence.now) }
+        ensures { result ≡ checked_by (totals_of self.now.index.now (dna_length self.now.index.now sequence.now)) }
+    {
+        let n = self.numbers.sequences;
+        let starts = Table {
+            index: self.index,
+            start: self.numbers.sequence_table,
+            steps: n,
+        };
+        let ends = Table {
+            index: self.index,
+            start: self.numbers.ambiguity_table,
+            steps: n,
+        };
+        let mut sum = 0;
+        let mut largest: usize = 0;
+        for i in 0..n {
+            let start = starts.place(i);
+            let last = ends.place(i) - 1;
+            let len = 4 * (last - start) + (sequence[last] % 4) as usize;
+            sum += len;
+            largest = largest.max(len);
+        }
+        self.check_stated(sum, largest)
+    }
+
+    // Separators and totals, 8 and 9.
+    fn check_lengths(&self, sequence: &[u8]) -> Result<(), Refusal>
+        requires { AllHold (sequence_offset_rules self.now.index.now sequence.now) }
+        ensures { result ≡ checked_by (separator_rules self.now.index.now sequence.now ++ total_rules self.now.index.now sequence.now) }
+    {
+        if self.is_protein() {
+            self.check_protein_lengths(sequence)
+        } else {
+            self.check_dna_lengths(sequence)
+        }
+    }
+
+    // What the tables and the files say, 7 to 9.
+    pub(crate) fn check(&self, sequence: &[u8], header: &[u8]) -> Result<(), Refusal>
+        ensures { result ≡ checked_by (offset_rules self.now.index.now sequence.now header.now ++ (separator_rules self.now.index.now sequence.now ++ total_rules self.now.index.now sequence.now)) }
+    {
+        self.check_offsets(sequence, header)?;
+        self.check_lengths(sequence)
+    }
 }

@@ -5,30 +5,18 @@ use Rattle.byte_runs.proofs.Answers.{unpacked-bytes_may, codes-bytes_kept, codes
 use Rattle.byte_runs.proofs.unpack_bytes.Goals as goal
 
 pub write_residues-requires : goal.write_residues-requires
-write_residues-requires c = let a = c.args in
-    let bytes = a.bytes.now in
-    let out = a.out.now in
-    let answer = c.unpack_bytes_answer in
-    let n = c.in-Unpacked.count in
-    let l = c.in-Unpacked.total in
-    let e = sym answer.ensures ∙ c.in-Unpacked.is in
-    let m = (unpacked-bytes_may a.alphabet bytes (length out) n l e).2 in
+write_residues-requires c =
+    let a = c.args in
+    let m = (unpacked-bytes_may a.alphabet a.bytes.now (length a.out.now) c.in_ok-size.size (sym c.unpack_bytes_answer.ensures ∙ c.in_ok-size.was)).2 in
     (m.formed, m.fits)
 
-pub returns-in-Refused : goal.returns-in-Refused
-returns-in-Refused c = let a = c.args in
-    let bytes = a.bytes.now in
-    let out = a.out.now in
-    let answer = c.unpack_bytes_answer in
-    let e = sym answer.ensures ∙ c.in-Refused.is in
-    record { answer = sym e; codes = sym (codes-bytes_kept a.alphabet bytes out c.in-Refused.r e) }
+pub returns-in_err-size-clause-codes : goal.returns-in_err-size-clause-codes
+returns-in_err-size-clause-codes c =
+    let a = c.args in
+    sym (codes-bytes_kept a.alphabet a.bytes.now a.out.now c.in_err-size.field-0.0 (sym c.unpack_bytes_answer.ensures ∙ c.in_err-size.was))
 
-pub returns-in-Unpacked : goal.returns-in-Unpacked
-returns-in-Unpacked c = let a = c.args in
-    let bytes = a.bytes.now in
-    let out = a.out.now in
-    let answer = c.unpack_bytes_answer in
-    let n = c.in-Unpacked.count in
-    let l = c.in-Unpacked.total in
-    let e = sym answer.ensures ∙ c.in-Unpacked.is in
-    record { answer = sym e; codes = c.write_residues.ensures ∙ sym (codes-bytes_written a.alphabet bytes out n l e) }
+pub returns-clause-codes : goal.returns-clause-codes
+returns-clause-codes c =
+    let a = c.args in
+    c.write_residues.ensures
+    ∙ sym (codes-bytes_written a.alphabet a.bytes.now a.out.now c.in_ok-size.size (sym c.unpack_bytes_answer.ensures ∙ c.in_ok-size.was))

@@ -1,49 +1,32 @@
 -- `deflines::title_in_line`: each turn passes one field, stops at a title and steps past any other.
 -- What is left of the fields gives the answer. Assumes nothing.
-use Prim.Native.Nat.{◌-◌}
-use mathlib.Core.Path.{refl, sym, ◌∙◌}
+use mathlib.Core.Path.{sym, ap, ◌∙◌}
 use Rattle.deflines.specs.Fields.{titles_in}
-use Rattle.deflines.proofs.Walks.{Turn, rest_none, turn_room, turn_less, turn_past, turn_here, turn_on}
-use Rattle.deflines.proofs.Fields.{title_held, no_title}
+use Rattle.deflines.specs.Numbered.{item_from}
+use Rattle.deflines.proofs.Walks.{rest-first, rest_none, turn_room, turn_found, turn_left, turn_past}
+use Rattle.deflines.proofs.Fields.{no_title, title_held}
 use Rattle.deflines.proofs.title_in_line.Goals as goal
 
-pub loop-end-init : goal.loop-end-init
+pub loop-p-init : goal.loop-p-init
 unfolding titles_in
-loop-end-init c = record { is = refl }
+loop-p-init c = rw c.into_iter-p-iterator.ensures.into_iter_gives (rest-first _ _ _ _ _ c.elements_in-p-items.ensures)
 
-pub returns-in_default : goal.returns-in_default
-returns-in_default c = rest_none c.loop-end.invariant (sym c.next_element.ensures ∙ c.in_default.is)
+pub field_at-requires : goal.field_at-requires
+field_at-requires c = turn_room c.loop-p.invariant c.in-Some.ensures.steps
 
-pub field_at-field-requires : goal.field_at-field-requires
-field_at-field-requires c =
-    let turn : Turn c.loop-end.invariant c.in-Element.end = record { next = sym c.next_element.ensures ∙ c.in-Element.is } in
-    turn_room (turn)
+pub loop-p-preserved-in_default : goal.loop-p-preserved-in_default
+loop-p-preserved-in_default c =
+    turn_past c.loop-p.invariant c.in-Some.ensures.steps (no_title _ _ _ c.field_at.ensures c.in_default.not-Title)
 
-pub loop-end-smaller-in_default-field : goal.loop-end-smaller-in_default-field
-loop-end-smaller-in_default-field c =
-    let turn : Turn c.loop-end.invariant c.in-Element.end = record { next = sym c.next_element.ensures ∙ c.in-Element.is } in
-    turn_less (turn)
+pub returns-in_err-left : goal.returns-in_err-left
+returns-in_err-left c =
+    let held = ap (λ ts. item_from ts c.loop-p.left) (title_held _ _ _ c.field_at.ensures _ c.in-Title.is) in
+    rw c.from_residual.ensures (turn_found c.loop-p.invariant c.in-Some.ensures.steps _ (held ∙ sym c.pass.ensures ∙ c.in_err-left.was))
 
-pub loop-end-preserved-in_default-field : goal.loop-end-preserved-in_default-field
-loop-end-preserved-in_default-field c =
-    let turn : Turn c.loop-end.invariant c.in-Element.end = record { next = sym c.next_element.ensures ∙ c.in-Element.is } in
-    turn_past (turn) (no_title _ _ _ c.field_at-field.ensures c.in_default-field.not-Title)
+pub loop-p-preserved : goal.loop-p-preserved
+loop-p-preserved c =
+    let held = ap (λ ts. item_from ts c.loop-p.left) (title_held _ _ _ c.field_at.ensures _ c.in-Title.is) in
+    turn_left c.loop-p.invariant c.in-Some.ensures.steps _ (held ∙ sym c.pass.ensures ∙ c.in_ok-left.was)
 
-pub returns-then-left-eq0 : goal.returns-then-left-eq0
-returns-then-left-eq0 c =
-    let turn : Turn c.loop-end.invariant c.in-Element.end = record { next = sym c.next_element.ensures ∙ c.in-Element.is } in
-    turn_here (turn) _
-    (title_held _ _ _ c.field_at-field.ensures _ c.in-Title.is)
-    c.if-left-eq0.true
-
-pub loop-end-smaller : goal.loop-end-smaller
-loop-end-smaller c =
-    let turn : Turn c.loop-end.invariant c.in-Element.end = record { next = sym c.next_element.ensures ∙ c.in-Element.is } in
-    turn_less (turn)
-
-pub loop-end-preserved : goal.loop-end-preserved
-loop-end-preserved c =
-    let turn : Turn c.loop-end.invariant c.in-Element.end = record { next = sym c.next_element.ensures ∙ c.in-Element.is } in
-    turn_on (turn) _
-    (title_held _ _ _ c.field_at-field.ensures _ c.in-Title.is)
-    c.if-left-eq0.false
+pub returns : goal.returns
+returns c = rest_none c.loop-p.invariant c.in-None.ensures.steps.0

@@ -1,16 +1,16 @@
--- `elements::closes_at`: the two places are tested before the two bytes, as in the definition. Assumes nothing.
-use native.Mathlib.Omega.{arith}
-use Rattle.elements.proofs.Reading.{closes_late, closes-first, closes-second}
+-- `elements::closes_at`: the tests are those of the definition. Assumes nothing.
+use Rattle.std.proofs.Common.{rules}
+use Rattle.elements.specs.Reading.{closes}
 use Rattle.elements.proofs.closes_at.Goals as goal
 
 pub returns-then-s-at : goal.returns-then-s-at
-returns-then-s-at c = closes_late _ _ (omega arith)
+unfolding closes
+returns-then-s-at c = search rules
 
-pub returns-then-s-at-lt2 : goal.returns-then-s-at-lt2
-returns-then-s-at-lt2 c = closes_late _ _ (omega arith)
+pub returns-then-s-at-eq0 : goal.returns-then-s-at-eq0
+unfolding closes
+returns-then-s-at-eq0 c = search rules
 
-pub returns-then-s-at-ne0 : goal.returns-then-s-at-ne0
-returns-then-s-at-ne0 c = closes-first _ _ (omega arith) c.if-s-at-ne0.true
-
-pub returns : goal.returns
-returns c = closes-second _ _ (omega arith) c.if-s-at-ne0.false
+pub returns-else-s-at-eq0 : goal.returns-else-s-at-eq0
+unfolding closes
+returns-else-s-at-eq0 c = search rules

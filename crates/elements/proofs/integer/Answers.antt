@@ -3,31 +3,34 @@ use native.Mathlib.Omega.{arith}
 use mathlib.Core.Path.{sym, ap, ◌∙◌}
 use mir.Syntax.{w64}
 use mir.ValLaws.{to_z-of_z}
-use Rattle.elements.specs.declared.IntegerAnswer.TheVariants as I
-use Rattle.elements.proofs.Parts.{inside_file, integer-other, integer-is, integer-read}
+use Rattle.std.specs.Prelude.{Ok}
+use Rattle.std.proofs.Common.{rules}
+use Rattle.elements.specs.Parts.{integer_at}
+use Rattle.elements.proofs.Parts.{integer-is, integer-read, part_length, part_number}
 use Rattle.elements.proofs.integer.Goals as goal
 
 pub returns-then-byte-ne2 : goal.returns-then-byte-ne2
-returns-then-byte-ne2 c = integer-other _ _ _ c.byte.ensures c.if-byte-ne2.true
+unfolding integer_at
+returns-then-byte-ne2 c = search rules
 
-pub overflow_add-at : goal.overflow_add-at
-overflow_add-at c =
-    let a = c.args in
-    let h = inside_file a.s.now a.at c.byte.result c.byte.ensures (λ z. omega arith) in
-    omega arith
+pub returns-in_err-part : goal.returns-in_err-part
+unfolding integer_at
+returns-in_err-part c = search rules
 
-pub signed_at-z-requires : goal.signed_at-z-requires
-signed_at-z-requires c =
-    let r = integer-read _ _ _ (sym c.integer_part.ensures ∙ c.in-Part.is) in
-    (r.fits, r.some, r.few)
+pub overflow_add-part : goal.overflow_add-part
+overflow_add-part c = let r = integer-read _ _ _ (sym c.in_ok-part.ensures) in omega (arith, r.fits)
 
-pub returns-in-Refused : goal.returns-in-Refused
-returns-in-Refused c =
-    integer-is _ _ _ c.byte.ensures c.if-byte-ne2.false
-    c.integer_part.ensures c.in-Refused.is
+pub slice_bounds-signed-end : goal.slice_bounds-signed-end
+slice_bounds-signed-end c = let r = integer-read _ _ _ (sym c.in_ok-part.ensures) in omega (arith, r.fits)
 
-pub returns-in-Part : goal.returns-in-Part
-returns-in-Part c =
-    ap I.Integer (to_z-of_z w64 _ (record { sfits = c.signed_at-z.type_inv }) ∙ c.signed_at-z.ensures)
-    ∙ integer-is _ _ _ c.byte.ensures c.if-byte-ne2.false
-    c.integer_part.ensures c.in-Part.is
+pub signed-requires : goal.signed-requires
+signed-requires c =
+    let r = integer-read _ _ _ (sym c.in_ok-part.ensures) in
+    let e = part_length _ _ _ r.fits in
+    (omega (arith, e, r.some), omega (arith, e, r.few))
+
+pub returns : goal.returns
+returns c =
+    let r = integer-read _ _ _ (sym c.in_ok-part.ensures) in
+    ap Ok (to_z-of_z w64 _ (record { sfits = c.signed.type_inv }) ∙ c.signed.ensures ∙ part_number _ _ _ r.fits)
+    ∙ integer-is _ _ _ c.byte.ensures c.if-byte-ne2.false c.integer_part.ensures c.in_ok-part.was

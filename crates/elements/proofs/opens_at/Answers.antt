@@ -1,12 +1,12 @@
 -- `elements::opens_at`: the place is tested before the byte, as in the definition. Assumes nothing.
-use borrow.Author.Tests.{lt-ltb, le-ltb}
+use Rattle.std.proofs.Common.{rules}
 use Rattle.elements.specs.Reading.{opens}
 use Rattle.elements.proofs.opens_at.Goals as goal
 
-pub returns-then-s-at : goal.returns-then-s-at
+pub returns-then-at-s : goal.returns-then-at-s
 unfolding opens
-returns-then-s-at c = rw (le-ltb _ _ c.if-s-at.true)
+returns-then-at-s c = search rules
 
-pub returns : goal.returns
+pub returns-else-at-s : goal.returns-else-at-s
 unfolding opens
-returns c = rw (lt-ltb _ _ c.if-s-at.false)
+returns-else-at-s c = search rules

@@ -1,16 +1,12 @@
 -- `elements::text`: a byte 1A stands within the slice, and the text's length behind it. Assumes nothing.
-use native.Mathlib.Omega.{arith}
-use Rattle.elements.proofs.Parts.{inside_file, text-other, text-is}
+use Rattle.std.proofs.Common.{rules}
+use Rattle.elements.specs.Parts.{text_at}
 use Rattle.elements.proofs.text.Goals as goal
 
 pub returns-then-byte-ne26 : goal.returns-then-byte-ne26
-returns-then-byte-ne26 c = text-other _ _ _ c.byte.ensures c.if-byte-ne26.true
-
-pub overflow_add-at : goal.overflow_add-at
-overflow_add-at c =
-    let a = c.args in
-    let h = inside_file a.s.now a.at c.byte.result c.byte.ensures (λ z. omega arith) in
-    omega arith
+unfolding text_at
+returns-then-byte-ne26 c = search rules
 
 pub returns : goal.returns
-returns c = text-is _ _ _ _ c.byte.ensures c.if-byte-ne26.false c.text_part.ensures
+unfolding text_at
+returns c = search rules

@@ -1,26 +1,24 @@
 -- `elements::text_part`: the tests are those of the definition, in its order. Assumes nothing.
-use native.Mathlib.Omega.{arith}
-use mathlib.Core.Path.{sym, ◌∙◌}
-use Rattle.elements.proofs.Parts.{range_parts, text-none, text-short, text_wrong, text-long}
+use Rattle.std.proofs.Common.{rules}
+use Rattle.elements.specs.Parts.{text_part}
 use Rattle.elements.proofs.text_part.Goals as goal
 
 pub returns-then-s-at : goal.returns-then-s-at
-returns-then-s-at c = text-none _ _ c.if-s-at.true
+unfolding text_part
+returns-then-s-at c = search rules
 
-pub returns-then-b-lt128 : goal.returns-then-b-lt128
-returns-then-b-lt128 c = text-short _ _ _ c.if-s-at.false c.byte-b.ensures _ c.if-b-lt128.true c.part_at.ensures
+pub returns-in-0-to-127 : goal.returns-in-0-to-127
+unfolding text_part
+returns-in-0-to-127 c = search rules
 
-pub returns-then-not-in_range : goal.returns-then-not-in_range
-returns-then-not-in_range c =
-    text_wrong _ _ _ c.if-s-at.false c.byte-b.ensures c.if-b-lt128.false
-    (sym c.in_range.ensures ∙ c.if-not-in_range.true)
+pub returns-in-129-to-132 : goal.returns-in-129-to-132
+unfolding text_part
+returns-in-129-to-132 c = search rules
 
-pub long_part-requires : goal.long_part-requires
-long_part-requires c =
-    let r = range_parts 129 132 c.byte-b.result (sym c.in_range.ensures ∙ c.if-not-in_range.false) in
-    (omega arith, omega arith)
+pub returns-in_default : goal.returns-in_default
+unfolding text_part
+returns-in_default c = search rules
 
-pub returns : goal.returns
-returns c =
-    text-long _ _ _ c.if-s-at.false c.byte-b.ensures
-    _ c.if-b-lt128.false (sym c.in_range.ensures ∙ c.if-not-in_range.false) c.long_part.ensures
+pub returns-in_default-2 : goal.returns-in_default-2
+unfolding text_part
+returns-in_default-2 c = search rules

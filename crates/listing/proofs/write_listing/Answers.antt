@@ -5,27 +5,39 @@ use Rattle.listing.specs.Listing.{refused_text, listing_text}
 use Rattle.listing.proofs.Texts.{listing_put}
 use Rattle.listing.proofs.Room.{refused-fits, volume_fits}
 use Rattle.listing.proofs.write_listing.Goals as goal
+use Rattle.listing.proofs.write_listing.Goals.{in-Ok, in-Err}
 
-pub put_refused-requires : goal.put_refused-requires
-put_refused-requires c = omega (arith, refused-fits c.number.result)
+pub refused-requires : goal.refused-requires
+refused-requires c = omega (arith, refused-fits c.from.result)
 
-pub put_volume-requires : goal.put_volume-requires
-put_volume-requires c =
+pub volume-requires : goal.volume-requires
+volume-requires c =
     let a = c.args in
-    let f = volume_fits a.index.now a.sequence.now a.header.now _
-    (sym c.check_listed.ensures ∙ c.in-Passed.is) in
+    let f = volume_fits a.index.now a.sequence.now a.header.now _ (sym c.check_listed.ensures ∙ c.in-Ok.is) in
     omega arith
 
-pub returns-in-Refused : goal.returns-in-Refused
+pub returns-clause-len : goal.returns-clause-len
 unfolding listing_text
-returns-in-Refused c =
+returns-clause-len c =
     let a = c.args in
-    let e = sym c.check_listed.ensures ∙ c.in-Refused.is in
-    let the-pair = listing_put a.index.now a.sequence.now a.header.now (rw e (ap refused_text (sym c.number.ensures))) c.put_refused.ensures in record { len = the-pair.0; out = the-pair.1 }
+    elim c.match-check_listed.branch [
+      | in-Ok w ↦
+          let e = sym c.check_listed.ensures ∙ w.in-Ok.is in
+          rw w.text-is (listing_put a.index.now a.sequence.now a.header.now (rw e) w.volume.ensures.put).0
+      | in-Err w ↦
+          let e = sym c.check_listed.ensures ∙ w.in-Err.is in
+          rw w.text-is (listing_put a.index.now a.sequence.now a.header.now (rw e (ap refused_text (sym w.from.ensures))) w.refused.ensures.put).0
+    ]
 
-pub returns-in-Passed : goal.returns-in-Passed
+pub returns-clause-out : goal.returns-clause-out
 unfolding listing_text
-returns-in-Passed c =
+returns-clause-out c =
     let a = c.args in
-    let e = sym c.check_listed.ensures ∙ c.in-Passed.is in
-    let the-pair = listing_put a.index.now a.sequence.now a.header.now (rw e) c.put_volume.ensures in record { len = the-pair.0; out = the-pair.1 }
+    elim c.match-check_listed.branch [
+      | in-Ok w ↦
+          let e = sym c.check_listed.ensures ∙ w.in-Ok.is in
+          rw w.text-is (listing_put a.index.now a.sequence.now a.header.now (rw e) w.volume.ensures.put).1
+      | in-Err w ↦
+          let e = sym c.check_listed.ensures ∙ w.in-Err.is in
+          rw w.text-is (listing_put a.index.now a.sequence.now a.header.now (rw e (ap refused_text (sym w.from.ensures))) w.refused.ensures.put).1
+    ]

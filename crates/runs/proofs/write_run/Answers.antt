@@ -1,106 +1,62 @@
 -- `runs::write_run`: the packets written so far, and the run of the codes still to read. Assumes nothing.
 use mathlib.Core.Path.{◌≡◌, refl, ap, ◌∙◌}
-use Prim.Native.Nat.{ℕ, ◌<◌, ◌-◌, ◌+◌}
+use mathlib.Core.List.{[], ◌∷◌}
+use Prim.Native.Nat.{◌-◌, ◌<◌}
 use native.Mathlib.Omega.{arith}
-use lib.ListN.{length, drop, length-set, length-drop}
-use lib.Seq.{paste-zero}
-use mathlib.Core.List.{List, [], ◌∷◌}
-use Rattle.packets.specs.Packing.{size, packet, run}
-use Rattle.packets.proofs.Packing.{size-some, run-some}
-use Rattle.runs.proofs.Turns.{size_is, packet-is, run_ends, run_goes, store_goes, store_rest, store_count, store_ends}
+use lib.ListN.{length, take, drop, length-set, length-drop}
+use Rattle.packets.specs.Packing.{packet, run}
+use Rattle.packets.proofs.Packing.{run-some}
+use Rattle.runs.proofs.Turns.{rest_ends, rest_goes, rest-less, rest_valid, rest_packet, store_goes, store_rest, store_count, store_ends}
 use Rattle.runs.proofs.write_run.Goals as goal
 
--- what `encode` says of the next packet, and that a packet is still to be written
+pub bounds-buffer-count : goal.bounds-buffer-count
+bounds-buffer-count c =
+    let l = c.loop-rest in
+    let whole = run c.args.alphabet c.args.codes.now in
+    omega (arith, c.requires.1, l.invariant.1, length-drop l.count whole, ap length l.invariant.3, run-some c.args.alphabet l.rest.now)
 
-pub loop-alphabet-init : goal.loop-alphabet-init
-loop-alphabet-init c = (
-  omega arith,
-  omega arith,
-  refl,
-  paste-zero c.args.buffer.now c.args.place.0
-      (run c.args.alphabet c.args.codes.now),
-  refl,
-)
-
-pub overflow_add-buffer : goal.overflow_add-buffer
-overflow_add-buffer c =
-    let codes : List ℕ = c.args.codes.now in
-    let whole : List ℕ = run c.args.alphabet (codes) in
-    let room : c.args.place.0 + c.loop-alphabet.count < length c.args.buffer.now = omega (
+pub offset_bounds-buffer-count : goal.offset_bounds-buffer-count
+offset_bounds-buffer-count c =
+    let l = c.loop-rest in
+    let whole = run c.args.alphabet c.args.codes.now in
+    let room : l.count < length l.buffer = omega (
       arith,
       c.requires.1,
-      length-drop c.loop-alphabet.count (whole),
-      ap length c.loop-alphabet.invariant.4,
-      run-some c.args.alphabet (drop c.loop-alphabet.at (codes)),
+      l.invariant.1,
+      length-drop l.count whole,
+      ap length l.invariant.3,
+      run-some c.args.alphabet l.rest.now,
     ) in
-    omega (arith, room)
+    omega (arith, room, l.invariant.1)
 
-pub offset_bounds-buffer-first : goal.offset_bounds-buffer-first
-offset_bounds-buffer-first c =
-    let codes : List ℕ = c.args.codes.now in
-    let whole : List ℕ = run c.args.alphabet (codes) in
-    let room : c.args.place.0 + c.loop-alphabet.count < length c.args.buffer.now = omega (
-      arith,
-      c.requires.1,
-      length-drop c.loop-alphabet.count (whole),
-      ap length c.loop-alphabet.invariant.4,
-      run-some c.args.alphabet (drop c.loop-alphabet.at (codes)),
-    ) in
-    omega (arith, room, c.loop-alphabet.invariant.2)
-
-pub bounds-buffer-first : goal.bounds-buffer-first
-bounds-buffer-first c =
-    let codes : List ℕ = c.args.codes.now in
-    let whole : List ℕ = run c.args.alphabet (codes) in
-    let room : c.args.place.0 + c.loop-alphabet.count < length c.args.buffer.now = omega (
-      arith,
-      c.requires.1,
-      length-drop c.loop-alphabet.count (whole),
-      ap length c.loop-alphabet.invariant.4,
-      run-some c.args.alphabet (drop c.loop-alphabet.at (codes)),
-    ) in
-    omega (arith, room, c.loop-alphabet.invariant.2)
-
-pub overflow_add-count : goal.overflow_add-count
-overflow_add-count c = omega arith
-
-pub shape_of-buffer-then-left-size : goal.shape_of-buffer-then-left-size
-shape_of-buffer-then-left-size c = simp length-set c.loop-alphabet.invariant.2
-
-pub returns-then-left-size : goal.returns-then-left-size
-returns-then-left-size c =
-    let codes : List ℕ = c.args.codes.now in
-    let whole : List ℕ = run c.args.alphabet (codes) in
-    let taken : c.encode-next.result.size ≡ size c.args.alphabet (drop c.loop-alphabet.at (codes)) = size_is c.args.alphabet (codes) c.loop-alphabet.at _ c.encode-next.ensures.size in
-    let packed : c.encode-next.result.packet ≡ packet c.args.alphabet (drop c.loop-alphabet.at (codes)) = packet-is c.args.alphabet (codes) c.loop-alphabet.at _ c.requires.0 c.encode-next.ensures.packet in
-    let l = c.loop-alphabet in
+pub returns-then-rest-next : goal.returns-then-rest-next
+returns-then-rest-next c =
+    let l = c.loop-rest in
+    let whole = run c.args.alphabet c.args.codes.now in
     let p = c.encode-next.result.packet in
-    let r : drop l.count (whole) ≡ p ∷ [] = l.invariant.4 ∙ rw (packed) (run_ends _ _ l.at _ (taken) c.if-left-size.true) in record { count = store_count (whole) c.args.buffer.now c.args.place.0 l.count l.buffer l.invariant.3 p [] r c.requires.1 refl; packets = store_ends (whole) c.args.buffer.now c.args.place.0 l.count l.buffer l.invariant.3 p [] r c.requires.1 refl }
+    let packed : p ≡ packet c.args.alphabet l.rest.now = rest_packet c.args.alphabet l.rest.now p l.invariant.4 c.encode-next.ensures.packet in
+    let r : drop l.count whole ≡ p ∷ [] = l.invariant.3 ∙ rw packed (rest_ends c.args.alphabet l.rest.now _ c.encode-next.ensures.size c.if-rest-next.true) in
+    record {
+      count = store_count whole c.args.buffer.now l.count l.buffer l.invariant.2 p [] r c.requires.1 refl;
+      packets = store_ends whole c.args.buffer.now l.count l.buffer l.invariant.2 p [] r c.requires.1 refl;
+    }
 
-pub overflow_add-at : goal.overflow_add-at
-overflow_add-at c = omega arith
+pub loop-rest-smaller : goal.loop-rest-smaller
+loop-rest-smaller c = rest-less c.args.alphabet c.loop-rest.rest.now _ c.encode-next.ensures.size c.if-rest-next.false
 
-pub loop-alphabet-smaller : goal.loop-alphabet-smaller
-loop-alphabet-smaller c =
-    let codes : List ℕ = c.args.codes.now in
-    let taken : c.encode-next.result.size ≡ size c.args.alphabet (drop c.loop-alphabet.at (codes)) = size_is c.args.alphabet (codes) c.loop-alphabet.at _ c.encode-next.ensures.size in
-    let some : (h : c.loop-alphabet.at < length (codes)) → 0 < c.encode-next.result.size = λ (h : c.loop-alphabet.at < length (codes)). rw taken (size-some _ (drop c.loop-alphabet.at (codes)) (omega (arith, length-drop c.loop-alphabet.at (codes)))) in
-    omega (arith, some (omega arith))
-
-pub loop-alphabet-preserved : goal.loop-alphabet-preserved
-loop-alphabet-preserved c =
-    let codes : List ℕ = c.args.codes.now in
-    let whole : List ℕ = run c.args.alphabet (codes) in
-    let taken : c.encode-next.result.size ≡ size c.args.alphabet (drop c.loop-alphabet.at (codes)) = size_is c.args.alphabet (codes) c.loop-alphabet.at _ c.encode-next.ensures.size in
-    let packed : c.encode-next.result.packet ≡ packet c.args.alphabet (drop c.loop-alphabet.at (codes)) = packet-is c.args.alphabet (codes) c.loop-alphabet.at _ c.requires.0 c.encode-next.ensures.packet in
-    let some : (h : c.loop-alphabet.at < length (codes)) → 0 < c.encode-next.result.size = λ (h : c.loop-alphabet.at < length (codes)). rw taken (size-some _ (drop c.loop-alphabet.at (codes)) (omega (arith, length-drop c.loop-alphabet.at (codes)))) in
-    let l = c.loop-alphabet in
+pub loop-rest-preserved : goal.loop-rest-preserved
+loop-rest-preserved c =
+    let l = c.loop-rest in
+    let e = c.encode-next.ensures.size in
+    let whole = run c.args.alphabet c.args.codes.now in
     let p = c.encode-next.result.packet in
-    let more = run c.args.alphabet (drop (l.at + c.encode-next.result.size) (codes)) in
-    let r : drop l.count (whole) ≡ p ∷ more = l.invariant.4 ∙ rw (packed) (run_goes _ _ l.at _ (taken) c.if-left-size.false) in (
-      omega (arith, some (omega arith)),
-      omega arith,
-      simp length-set l.invariant.2,
-      store_goes (whole) c.args.buffer.now c.args.place.0 l.count l.buffer l.invariant.3 p more r c.requires.1,
-      store_rest (whole) c.args.buffer.now c.args.place.0 l.count l.buffer l.invariant.3 p more r c.requires.1,
+    let s = c.encode-next.result.size in
+    let more = run c.args.alphabet (take (length l.rest.now - s) (drop s l.rest.now)) in
+    let packed : p ≡ packet c.args.alphabet l.rest.now = rest_packet c.args.alphabet l.rest.now p l.invariant.4 c.encode-next.ensures.packet in
+    let r : drop l.count whole ≡ p ∷ more = l.invariant.3 ∙ rw packed (rest_goes c.args.alphabet l.rest.now s e c.if-rest-next.false) in (
+      omega (arith, rest-less c.args.alphabet l.rest.now s e c.if-rest-next.false),
+      simp length-set l.invariant.1,
+      store_goes whole c.args.buffer.now l.count l.buffer l.invariant.2 p more r c.requires.1,
+      store_rest whole c.args.buffer.now l.count l.buffer l.invariant.2 p more r c.requires.1,
+      rest_valid c.args.alphabet l.rest.now s l.invariant.4,
     )

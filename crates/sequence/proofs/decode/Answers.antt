@@ -1,6 +1,7 @@
 -- `sequence::decode`: the sequence file's size, then the index, then the sequence's own rules. Assumes nothing.
 use lib.ListN.{length}
 use mathlib.Core.Path.{sym, ◌∙◌}
+use Rattle.std.proofs.lemmas.Result.{err_from_is_err_and}
 use Rattle.volume.proofs.Reading.{index_read}
 use Rattle.sequence.proofs.Answers.{decode_large, decode_unread, decode_read, output_by}
 use Rattle.sequence.proofs.decode.Goals as goal
@@ -15,31 +16,22 @@ returns-then-sequence-gt-MOST_BYTES c =
 
 pub decode_own-requires : goal.decode_own-requires
 decode_own-requires c =
+    let read = sym c.read_index.ensures ∙ c.in_ok-x.was in
+    ((index_read c.args.index.now _ read).1, c.if-sequence-gt-MOST_BYTES.false)
+
+pub returns-in_err-x : goal.returns-in_err-x
+returns-in_err-x c =
     let a = c.args in
-    let if1 = c.if-sequence-gt-MOST_BYTES in
-    let g = sym c.read_index.ensures ∙ c.in-Read.is in
-    ((index_read a.index.now _ g).1, if1.false)
+    let o = a.out.now in
+    let p = err_from_is_err_and c.from_residual.result c.from_residual.ensures.1 in
+    let unread = sym c.read_index.ensures ∙ c.in_err-x.was in
+    let answer = decode_unread a.index.now a.sequence.now a.number (length o) c.if-sequence-gt-MOST_BYTES.false _ unread in
+    rw (p.1, p.2) (record { value = answer; out_after = output_by a.index.now a.sequence.now a.number o _ answer })
 
-pub returns-in-Refused : goal.returns-in-Refused
-returns-in-Refused c =
-    let a' = c.args in
-    let if1 = c.if-sequence-gt-MOST_BYTES in
-    let index = a'.index.now in
-    let s = a'.sequence.now in
-    let o = a'.out.now in
-    let g = sym c.read_index.ensures ∙ c.in-Refused.is in
-    let a = decode_unread index s a'.number (length o) if1.false _ g in
-    record { value = a; out_after = output_by index s a'.number o _ a }
-
-pub returns-in-Read : goal.returns-in-Read
-returns-in-Read c =
-    let a' = c.args in
-    let if1 = c.if-sequence-gt-MOST_BYTES in
-    let read-index = c.read_index in
-    let x = c.in-Read in
-    let index = a'.index.now in
-    let s = a'.sequence.now in
-    let o = a'.out.now in
-    let g = sym read-index.ensures ∙ x.is in
-    let a = c.decode_own.ensures.value ∙ decode_read index s a'.number (length o) if1.false _ g in
-    record { value = a; out_after = c.decode_own.ensures.out_after ∙ output_by index s a'.number o _ a }
+pub returns : goal.returns
+returns c =
+    let a = c.args in
+    let o = a.out.now in
+    let read = sym c.read_index.ensures ∙ c.in_ok-x.was in
+    let answer = c.decode_own.ensures.value ∙ decode_read a.index.now a.sequence.now a.number (length o) c.if-sequence-gt-MOST_BYTES.false _ read in
+    record { value = answer; out_after = c.decode_own.ensures.out_after ∙ output_by a.index.now a.sequence.now a.number o _ answer }

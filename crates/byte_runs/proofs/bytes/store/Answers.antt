@@ -1,38 +1,12 @@
--- `byte_runs::bytes::store`: what is written so far, and what is left to write, are the number's bytes. Assumes nothing.
-use mathlib.Core.Path.{◌≡◌, refl, ap, ◌∙◌}
+-- `byte_runs::bytes::store`: the low bytes of the number, in place of those that stand there. Assumes nothing.
+use mathlib.Core.Path.{ap, ◌∙◌}
 use mathlib.Core.List.{List}
-use Prim.Native.Nat.{ℕ, ◌-◌, ◌+◌, ◌/◌, ◌%◌}
-use native.Mathlib.Omega.{arith}
-use lib.ListN.{length, set, length-set}
-use lib.Seq.{paste-zero}
-use Rattle.laws.proofs.Writing.{write_step, rest_step, paste_whole}
-use Rattle.fields.specs.Written.{little_bytes}
-use Rattle.fields.proofs.Laws.{little-cons, length-little}
+use Prim.Native.Nat.{ℕ}
+use lib.ListN.{take}
+use Rattle.packets.proofs.Stored.{stored}
 use Rattle.byte_runs.proofs.bytes.store.Goals as goal
-
-pub loop-j-init : goal.loop-j-init
-loop-j-init c =
-    let a = c.args in
-    let e : a.count - 0 ≡ a.count = omega arith in
-    (omega arith, refl, paste-zero a.out.now a.at (little_bytes a.count a.n), rw e)
-
-pub loop-j-preserved : goal.loop-j-preserved
-loop-j-preserved c =
-    let l = c.loop-j in
-    let a = c.args in
-    let j = l.j in
-    let v = l.rest in
-    let e = l.invariant.3 ∙ little-cons (a.count - j) (a.count - (j + 1)) v (omega arith) in (
-      omega arith,
-      simp length-set l.invariant.1,
-      ap (λ (x : List ℕ). set x (a.at + j) (v % 256)) l.invariant.2
-          ∙ write_step a.out.now a.at (little_bytes a.count a.n) j (v % 256) (little_bytes (a.count - (j + 1)) (v / 256)) (omega arith) e,
-      rest_step (little_bytes a.count a.n) j (v % 256) (little_bytes (a.count - (j + 1)) (v / 256)) e,
-    )
 
 pub returns : goal.returns
 returns c =
-    let l = c.loop-j in
     let a = c.args in
-    let e : l.j ≡ length (little_bytes a.count a.n) = omega (arith, length-little a.count a.n) in
-    l.invariant.2 ∙ rw e (paste_whole a.at (little_bytes a.count a.n) a.out.now)
+    stored a.n a.count a.at a.out.now _ c.requires.0 c.requires.1 (c.copy_from_slice.ensures.after ∙ ap (λ (l : List ℕ). take a.count l) c.to_le_bytes.ensures)

@@ -1,27 +1,39 @@
--- `byte_runs::packing::sixteen_fives`: the packets made so far. Assumes nothing.
-use mathlib.Core.Path.{◌≡◌, refl}
+-- `byte_runs::packing::sixteen_fives`: each packet by the call that made it. Assumes nothing.
+use mathlib.Core.Path.{◌≡◌, refl, ap, ◌∙◌}
+use mathlib.Core.Bool.{true}
+use mathlib.Core.List.{List}
+use Rattle.std.proofs.Common.{rules}
+use Rattle.std.proofs.iter.Serving.{serving}
 use native.Mathlib.Omega.{arith}
-use Prim.Native.Nat.{◌-◌}
-use lib.ListN.{length-set}
+use Prim.Native.Nat.{ℕ, ◌*◌, ◌-◌, ◌≤◌, ◌<◌}
+use lib.ListN.{length, take, drop}
+use Rattle.laws.specs.Digits.{all_below}
+use Rattle.laws.proofs.Digits.{below-drop, below-take}
+use Rattle.laws.proofs.Parts.{part_rest}
 use Rattle.packets.specs.Packing.{five_bit_part}
-use Rattle.byte_runs.proofs.Packed.{parts_none, parts_more, parts_whole}
+use Rattle.byte_runs.specs.Packed.{parts_by}
+use Rattle.byte_runs.proofs.Made.{made_list}
+use Rattle.byte_runs.proofs.Packed.{part_long}
 use Rattle.byte_runs.proofs.packing.sixteen_fives.Goals as goal
 
-pub loop-i-init : goal.loop-i-init
-loop-i-init c = (omega arith, refl, refl, parts_none (λ next. five_bit_part next) 6 c.args.codes.now _)
-
-pub loop-i-preserved : goal.loop-i-preserved
-loop-i-preserved c = (
-  omega arith,
-  c.loop-i.invariant.1,
-  simp length-set c.loop-i.invariant.2,
-  parts_more
-      (λ next. five_bit_part next) 6 c.args.codes.now c.loop-i.i c.five_packet.result _
-      c.loop-i.packets c.loop-i.invariant.3 (omega (arith, c.loop-i.invariant.1)) c.five_packet.ensures,
-)
+pub from_fn-requires : goal.from_fn-requires
+from_fn-requires c =
+    let cs = c.args.codes.now in
+    let rest : ℕ → List ℕ = λ i. take (length cs - 6 * i) (drop (6 * i) cs) in
+    let each : (i : ℕ) → i < 16 → (6 * i ≤ length cs) × (6 ≤ length (rest i)) × (all_below 28 (rest i) ≡ true) =
+    λ i h. (
+      omega (arith, c.requires.0),
+      part_long (6 * i) 6 cs (omega (arith, c.requires.0)),
+      below-take 28 (length cs - 6 * i) (drop (6 * i) cs) (below-drop 28 (6 * i) cs c.requires.1),
+    ) in
+    grind serving
 
 pub returns : goal.returns
+unfolding parts_by
 returns c =
-    let l = c.loop-i in
-    let n : l.i ≡ 16 = omega arith in
-    parts_whole (λ next. five_bit_part next) 6 c.args.codes.now 16 l.i _ l.packets l.invariant.3 n l.invariant.1
+    let cs = c.args.codes.now in
+    made_list _ (λ s. s.0.now ≡ cs) (λ i. five_bit_part (drop (6 * i) cs)) 16
+    (λ p q i y h s k.
+    let e : (q.0.now ≡ cs) × (y ≡ five_bit_part (take (length cs - 6 * i) (drop (6 * i) cs))) = search rules in
+    (e.0, e.1 ∙ ap five_bit_part (part_rest cs (6 * i))))
+    _ c.from_fn.result refl c.from_fn.ensures.items

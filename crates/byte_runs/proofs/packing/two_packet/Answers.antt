@@ -1,39 +1,34 @@
 -- `byte_runs::packing::two_packet`: four numbers of four codes, of which two share one. Assumes nothing.
-use mathlib.Core.Path.{refl}
-use Prim.Native.Nat.{◌+◌}
 use native.Mathlib.Omega.{arith}
+use Rattle.packets.proofs.Packing.{plain-long}
 use Rattle.byte_runs.proofs.Twos.{four_bases, two_sum}
 use Rattle.byte_runs.proofs.packing.two_packet.Goals as goal
 
+pub four_at-requires-4 : goal.four_at-requires-4
+four_at-requires-4 c = omega (arith, plain-long 15 c.args.next.now c.requires)
+
+pub four_at-requires-3 : goal.four_at-requires-3
+four_at-requires-3 c = omega (arith, plain-long 15 c.args.next.now c.requires)
+
+pub four_at-requires-2 : goal.four_at-requires-2
+four_at-requires-2 c = omega (arith, plain-long 15 c.args.next.now c.requires)
+
+pub four_at-requires : goal.four_at-requires
+four_at-requires c = omega (arith, plain-long 15 c.args.next.now c.requires)
+
 pub four_shifted-requires : goal.four_shifted-requires
-four_shifted-requires c = four_bases c.args.codes.now c.args.at c.requires.1 0
-    c.args.at c.four_at.result (omega arith) (omega arith) c.four_at.ensures.value
+four_shifted-requires c = four_bases c.args.next.now c.requires 0 _ (omega arith) c.four_at.ensures.value
 
 pub four_shifted-requires-2 : goal.four_shifted-requires-2
-four_shifted-requires-2 c = four_bases c.args.codes.now c.args.at
-    c.requires.1 4 (c.args.at + 4) c.four_at-2.result (omega arith) refl
-    c.four_at-2.ensures.value
+four_shifted-requires-2 c = four_bases c.args.next.now c.requires 4 _ (omega arith) c.four_at-2.ensures.value
 
 pub four_shifted-requires-3 : goal.four_shifted-requires-3
-four_shifted-requires-3 c = four_bases c.args.codes.now
-    c.args.at c.requires.1 8
-    (c.args.at + 8) c.four_at-3.result (omega arith) refl c.four_at-3.ensures.value
+four_shifted-requires-3 c = four_bases c.args.next.now c.requires 8 _ (omega arith) c.four_at-3.ensures.value
 
 pub four_shifted-requires-4 : goal.four_shifted-requires-4
-four_shifted-requires-4 c = four_bases c.args.codes.now
-    c.args.at
-    c.requires.1 11
-    (c.args.at + 11) c.four_at-4.result (omega arith) refl c.four_at-4.ensures.value
+four_shifted-requires-4 c = four_bases c.args.next.now c.requires 11 _ (omega arith) c.four_at-4.ensures.value
 
 pub returns : goal.returns
-returns c = two_sum c.args.codes.now
-    c.args.at
-    c.requires.1
-    c.four_shifted.result c.four_shifted-2.result
-    c.four_shifted-3.result c.four_shifted-4.result
-    c.four_at.result c.four_at-2.result
-    c.four_at-3.result c.four_at-4.result
-    c.four_shifted.ensures.value
-    c.four_at.ensures.value c.four_shifted-2.ensures.value
-    c.four_at-2.ensures.value c.four_shifted-3.ensures.value
-    c.four_at-3.ensures.value c.four_shifted-4.ensures.value c.four_at-4.ensures.value
+returns c =
+    two_sum c.args.next.now c.requires _ _ _ _ _ _ _ _ c.four_shifted.ensures.value c.four_at.ensures.value c.four_shifted-2.ensures.value
+    c.four_at-2.ensures.value c.four_shifted-3.ensures.value c.four_at-3.ensures.value c.four_shifted-4.ensures.value c.four_at-4.ensures.value

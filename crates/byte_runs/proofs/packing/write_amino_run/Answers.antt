@@ -6,6 +6,15 @@ use Rattle.runs.proofs.Turns.{packet-is}
 use Rattle.byte_runs.proofs.Runs.{amino_count, amino_bytes}
 use Rattle.byte_runs.proofs.packing.write_amino_run.Goals as goal
 
+pub put_packet-requires : goal.put_packet-requires
+put_packet-requires c = omega (
+  arith,
+  c.requires.1,
+  amino_count c.args.codes.now
+      (c.sixes_of-whole.result - 1) (ap (λ (n : ℕ). n - 1)
+      c.sixes_of-whole.ensures),
+)
+
 pub write_fives-requires : goal.write_fives-requires
 write_fives-requires c = (
   omega (arith, c.sixes_of-whole.ensures),
@@ -16,16 +25,6 @@ write_fives-requires c = (
     amino_count c.args.codes.now (c.sixes_of-whole.result - 1)
         (ap (λ (n : ℕ). n - 1) c.sixes_of-whole.ensures),
   ),
-)
-
-pub put_packet-requires : goal.put_packet-requires
-put_packet-requires c = omega (
-  arith,
-  c.requires.1,
-  c.out-1.given,
-  amino_count c.args.codes.now
-      (c.sixes_of-whole.result - 1) (ap (λ (n : ℕ). n - 1)
-      c.sixes_of-whole.ensures),
 )
 
 pub returns : goal.returns

@@ -1,14 +1,10 @@
 -- `byte_runs::packing::write_few`: the packets written so far. Assumes nothing.
 use mathlib.Core.Path.{◌≡◌}
-use Prim.Native.Nat.{◌≤◌, ◌-◌}
-use lib.ListN.{length, take}
+use lib.ListN.{take}
 use Rattle.laws.specs.Writing.{written_at}
 use Rattle.packets.specs.Bytes.{bytes_of}
 use Rattle.byte_runs.specs.Packed.{fives}
 use Rattle.byte_runs.proofs.packing.write_few.Given as goal
 
 abbrev pub invariant-loop-i : goal.invariant-loop-i
-invariant-loop-i l = (l.i ≤ l.count) × (length l.out ≡ length l.initial.out) × (l.out ≡ written_at 0 (bytes_of (take l.i (fives l.codes l.count))) l.initial.out)
-
-abbrev pub decreases-loop-i : goal.decreases-loop-i
-decreases-loop-i l = l.count - l.i
+invariant-loop-i l = l.out ≡ written_at 0 (bytes_of (take l.i (fives l.codes l.count))) l.initial.out

@@ -1,65 +1,43 @@
 -- `byte_runs::packing::write_run`: by the alphabet, at the start of the part of the output that begins at the place. Assumes nothing.
-use mathlib.Core.Path.{sym, ap, ◌∙◌}
-use Prim.Native.Nat.{ℕ}
-use borrow.Author.Tests.{ne_eqb}
+use mathlib.Core.Path.{◌≡◌, sym, ap, ◌∙◌}
+use mathlib.Core.Bool.{true, false}
+use native.Mathlib.Omega.{arith}
+use borrow.Author.Tests.{eqb-true}
 use lib.ListN.{length}
-use Rattle.packets.specs.Packing.{run}
-use Rattle.byte_runs.proofs.RunBegun.{run-same, valid_same, placed_start, placed_room, placed}
+use Rattle.residues.specs.Alphabets.{is_amino}
+use Rattle.byte_runs.proofs.RunBegun.{run-same, run_three, valid_same, placed_room, placed}
 use Rattle.byte_runs.proofs.packing.write_run.Goals as goal
 
-pub slice_bounds-write_amino_run-start : goal.slice_bounds-write_amino_run-start
-slice_bounds-write_amino_run-start c = placed_start (run 3 c.args.codes.now) (run
-    c.args.alphabet c.args.codes.now) c.args.out.now c.args.place.0 c.byte_of-from.result.0 (ap (λ
-    (x : ℕ). run x c.args.codes.now) (sym c.if-alphabet-eq3.true)) c.requires.1
-    c.byte_of-from.ensures
-
 pub write_amino_run-requires : goal.write_amino_run-requires
-write_amino_run-requires c = (
-  rw c.if-alphabet-eq3.true at c.requires.0,
-  placed_room (run 3 c.args.codes.now) (run c.args.alphabet c.args.codes.now) c.args.out.now
-      c.args.place.0 c.byte_of-from.result.0 (ap (λ (x : ℕ). run x c.args.codes.now) (sym c.if-alphabet-eq3.true)) c.requires.1
-      c.byte_of-from.ensures,
-)
+write_amino_run-requires c =
+    let a = c.args in
+    let t : is_amino a.alphabet ≡ true = sym c.is_amino.ensures ∙ c.if-is_amino.true in
+    (rw (eqb-true a.alphabet 3 t) at c.requires.0, placed_room _ _ a.out.now a.place.0 c.start_of.result (run_three a.alphabet t a.codes.now) c.requires.1 c.start_of.ensures)
 
-pub returns-then-alphabet-eq3 : goal.returns-then-alphabet-eq3
-returns-then-alphabet-eq3 c = record {
-  count = c.write_amino_run.ensures.count ∙ ap length (ap (λ (x : ℕ). run x c.args.codes.now) (sym c.if-alphabet-eq3.true));
-  bytes = placed
-      (run 3 c.args.codes.now) (run
-      c.args.alphabet c.args.codes.now) c.args.out.now
-      c.args.place.0
-      c.byte_of-from.result.0 (ap (λ (x : ℕ). run x c.args.codes.now) (sym c.if-alphabet-eq3.true))
-      c.requires.1 c.byte_of-from.ensures _
-      c.write_amino_run.ensures.bytes;
-}
-
-pub slice_bounds-write_nucleic_run-start : goal.slice_bounds-write_nucleic_run-start
-slice_bounds-write_nucleic_run-start c = placed_start (run 1 c.args.codes.now) (run
-    c.args.alphabet c.args.codes.now) c.args.out.now c.args.place.0 c.byte_of-from.result.0 (sym
-    (run-same c.args.alphabet (ne_eqb c.args.alphabet 3 c.if-alphabet-eq3.false) c.args.codes.now)) c.requires.1 c.byte_of-from.ensures
+pub returns-then-is_amino : goal.returns-then-is_amino
+returns-then-is_amino c =
+    let a = c.args in
+    let t : is_amino a.alphabet ≡ true = sym c.is_amino.ensures ∙ c.if-is_amino.true in
+    let e = run_three a.alphabet t a.codes.now in
+    record {
+      count = c.write_amino_run.ensures.count ∙ ap length e;
+      bytes = placed _ _ a.out.now a.place.0 c.start_of.result e c.requires.1 c.start_of.ensures _ (omega arith) c.write_amino_run.ensures.bytes;
+    }
 
 pub write_nucleic_run-requires : goal.write_nucleic_run-requires
-write_nucleic_run-requires c = (
-  valid_same c.args.alphabet (ne_eqb
-      c.args.alphabet 3 c.if-alphabet-eq3.false) c.args.codes.now c.requires.0,
-  placed_room (run 1 c.args.codes.now) (run c.args.alphabet c.args.codes.now) c.args.out.now
-      c.args.place.0 c.byte_of-from.result.0 (sym (run-same
-      c.args.alphabet (ne_eqb c.args.alphabet 3
-      c.if-alphabet-eq3.false) c.args.codes.now)) c.requires.1
-      c.byte_of-from.ensures,
-)
+write_nucleic_run-requires c =
+    let a = c.args in
+    let f : is_amino a.alphabet ≡ false = sym c.is_amino.ensures ∙ c.if-is_amino.false in (
+      valid_same a.alphabet f a.codes.now c.requires.0,
+      placed_room _ _ a.out.now a.place.0 c.start_of.result (sym (run-same a.alphabet f a.codes.now)) c.requires.1 c.start_of.ensures,
+    )
 
-pub returns : goal.returns
-returns c = record {
-  count = c.write_nucleic_run.ensures.count ∙ ap length (sym (run-same
-      c.args.alphabet (ne_eqb
-      c.args.alphabet 3 c.if-alphabet-eq3.false) c.args.codes.now));
-  bytes = placed (run 1 c.args.codes.now) (run
-      c.args.alphabet c.args.codes.now) c.args.out.now
-      c.args.place.0
-      c.byte_of-from.result.0 (sym (run-same
-      c.args.alphabet (ne_eqb
-      c.args.alphabet 3 c.if-alphabet-eq3.false) c.args.codes.now))
-      c.requires.1 c.byte_of-from.ensures _
-      c.write_nucleic_run.ensures.bytes;
-}
+pub returns-else-is_amino : goal.returns-else-is_amino
+returns-else-is_amino c =
+    let a = c.args in
+    let f : is_amino a.alphabet ≡ false = sym c.is_amino.ensures ∙ c.if-is_amino.false in
+    let e = sym (run-same a.alphabet f a.codes.now) in
+    record {
+      count = c.write_nucleic_run.ensures.count ∙ ap length e;
+      bytes = placed _ _ a.out.now a.place.0 c.start_of.result e c.requires.1 c.start_of.ensures _ (omega arith) c.write_nucleic_run.ensures.bytes;
+    }

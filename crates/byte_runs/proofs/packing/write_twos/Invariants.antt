@@ -9,8 +9,11 @@ use Rattle.byte_runs.specs.Packed.{twos, plain_parts}
 use Rattle.byte_runs.proofs.packing.write_twos.Given as goal
 
 abbrev pub invariant-loop-packets : goal.invariant-loop-packets
-invariant-loop-packets l = (15 * l.n < length l.codes) × (length l.out ≡ length l.initial.out) × (plain_parts l.codes l.n ≡ true) × (l.out ≡ written_at 0 (bytes_of
-    (twos l.codes l.n)) l.initial.out)
+invariant-loop-packets l = record {
+  more : 15 * l.n < length l.codes;
+  plain : plain_parts l.codes l.n ≡ true;
+  bytes : l.out ≡ written_at 0 (bytes_of (twos l.codes l.n)) l.initial.out;
+}
 
 abbrev pub decreases-loop-packets : goal.decreases-loop-packets
 decreases-loop-packets l = length l.codes - 15 * l.n

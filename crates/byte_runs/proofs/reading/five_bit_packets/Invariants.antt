@@ -1,12 +1,8 @@
 -- `byte_runs::reading::five_bit_packets`: bit 30 of the packets so far, added up. Assumes nothing.
 use mathlib.Core.Path.{◌≡◌}
-use Prim.Native.Nat.{◌≤◌, ◌-◌}
 use Rattle.packets.specs.Bytes.{packets_by}
 use Rattle.packets.specs.Reading.{five_bit_to}
 use Rattle.byte_runs.proofs.reading.five_bit_packets.Given as goal
 
 abbrev pub invariant-loop-i : goal.invariant-loop-i
-invariant-loop-i l = (l.i ≤ l.count) × (l.fives ≡ five_bit_to (packets_by l.order l.bytes) l.i)
-
-abbrev pub decreases-loop-i : goal.decreases-loop-i
-decreases-loop-i l = l.count - l.i
+invariant-loop-i l = l.fives ≡ five_bit_to (packets_by l.order l.bytes) l.i

@@ -6,12 +6,12 @@ use native.Mathlib.Omega.{arith}
 use Rattle.laws.specs.Writing.{written_at}
 use Rattle.laws.proofs.Writing.{written_twice}
 use Rattle.fields.specs.Written.{little_bytes}
+use lib.ListN.{get_or}
 use Rattle.byte_runs.proofs.unpacking.put_six.Goals as goal
 
 pub returns : goal.returns
 returns c =
     let a = c.args in
-    c.store-2.ensures
-    ∙ (ap (λ (l : List ℕ). written_at (a.at + 4) (little_bytes 2 a.two) l) c.store.ensures
-    ∙ written_twice a.at (little_bytes 4 a.four) (little_bytes 2 a.two) a.out.now
-    (omega (arith, c.requires)))
+    let four = little_bytes 4 (get_or a.codes 0 0) in
+    let two = little_bytes 2 (get_or a.codes 1 0) in
+    c.store-2.ensures ∙ (ap (λ (l : List ℕ). written_at (a.at + 4) two l) c.store.ensures ∙ written_twice a.at four two a.out.now (omega (arith, c.requires)))

@@ -1,6 +1,5 @@
 -- `console::results::write_results`: the values passed so far stand at the range's start. Assumes nothing.
 use mathlib.Core.Path.{refl, ap, ◌∙◌}
-use Prim.Native.Nat.{◌-◌}
 use native.Mathlib.Omega.{arith}
 use lib.ListN.{length}
 use Rattle.laws.specs.Writing.{written_at}
@@ -17,8 +16,8 @@ loop-k-preserved c =
     let a = c.args in
     let l = c.loop-k in (
       omega arith,
-      ap length c.put_le_u64.ensures ∙ (length_put little 8 _ _ _ ∙ l.invariant.1),
-      c.put_le_u64.ensures ∙ results_next a.values.now a.results.now l.results l.k _ (omega arith)
+      ap length c.put.ensures ∙ (length_put little 8 _ _ _ ∙ l.invariant.1),
+      c.put.ensures ∙ results_next a.values.now a.results.now l.results l.k _ (omega arith)
           c.requires refl l.invariant.2 l.invariant.1,
     )
 

@@ -3,4 +3,4 @@ use Rattle.list.specs.Shown.{shown_byte}
 use Rattle.list.proofs.message.show.Given as goal
 
 abbrev pub invariant-loop-b : goal.invariant-loop-b
-invariant-loop-b l = l.shown.items ≡ l.initial.shown.items ++ flat_map shown_byte (take l.b-index l.name)
+invariant-loop-b l = l.shown.bytes.items ≡ l.initial.shown.bytes.items ++ flat_map shown_byte (take l.b-index l.name)

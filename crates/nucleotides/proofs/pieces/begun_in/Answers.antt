@@ -1,40 +1,24 @@
 -- `nucleotides::pieces::begun_in`: the sum of what each place adds. Assumes nothing.
-use mathlib.Core.Path.{◌≡◌, refl, ap, ◌∙◌}
-use Prim.Native.Nat.{ℕ, ◌+◌, ◌-◌}
+use mathlib.Core.Path.{ap, ◌∙◌}
+use Prim.Native.Nat.{ℕ, ◌+◌}
 use native.Mathlib.Omega.{arith}
 use Rattle.laws.proofs.Places.{sum_more}
-use Rattle.nucleotides.specs.Scan.{code_at, begun, begun_in}
+use Rattle.nucleotides.specs.Scan.{code_at, begun}
 use Rattle.nucleotides.proofs.Starts.{begun-most}
 use Rattle.nucleotides.proofs.pieces.begun_in.Goals as goal
 
-pub loop-i-init : goal.loop-i-init
-loop-i-init c = (omega arith, omega arith, refl)
-
 pub overflow_add-count : goal.overflow_add-count
 overflow_add-count c =
-    let asked = c.requires in
-    let a = c.args in
+    let codes = c.args.codes.now in
     let l = c.loop-i in
-    let e = c.is_begun-count.ensures in
-    let m = begun-most (code_at a.codes.now (a.from + l.i)) (code_at a.codes.now (a.from + l.i + 1)) in
-    record { fits = omega (arith, l.invariant, asked) }
+    let most = begun-most (code_at codes l.i) (code_at codes (l.i + 1)) in
+    record { fits = omega (arith, l.invariant, c.requires, most, c.is_begun-count.ensures) }
 
 pub loop-i-preserved : goal.loop-i-preserved
 loop-i-preserved c =
-    let a = c.args in
+    let codes = c.args.codes.now in
     let l = c.loop-i in
-    let e = c.is_begun-count.ensures in
-    let m = begun-most (code_at a.codes.now (a.from + l.i)) (code_at a.codes.now (a.from + l.i + 1)) in
-    let cs = a.codes.now in (
-      omega arith,
-      omega (arith, l.invariant),
-      ap (λ (x : ℕ). x + c.is_begun-count.result) l.invariant.2
-          ∙ sum_more (λ i. begun (code_at cs (a.from + i)) (code_at cs (a.from + i + 1))) l.i _ e,
+    let most = begun-most (code_at codes l.i) (code_at codes (l.i + 1)) in (
+      omega (arith, l.invariant, most, c.is_begun-count.ensures),
+      ap (λ (x : ℕ). x + c.is_begun-count.result) l.invariant.1 ∙ sum_more (λ i. begun (code_at codes i) (code_at codes (i + 1))) l.i _ c.is_begun-count.ensures,
     )
-
-pub returns : goal.returns
-returns c =
-    let given_args = c.args in
-    let l = c.loop-i in
-    let e : l.i ≡ given_args.n = omega (arith, l.invariant.0) in
-    l.invariant.2 ∙ ap (begun_in given_args.codes.now given_args.from) e

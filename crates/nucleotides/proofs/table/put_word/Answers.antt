@@ -8,23 +8,18 @@ use Rattle.fields.specs.Number.{big}
 use Rattle.fields.specs.Written.{number_put}
 use Rattle.fields.proofs.Laws.{put_fits, length-number}
 use Rattle.laws.specs.Writing.{written_at}
-use Rattle.laws.proofs.Storing.{store_none}
+use Rattle.nucleotides.specs.Pieces.{bytes_of}
 use Rattle.nucleotides.specs.Table.{table_word}
-use Rattle.nucleotides.proofs.Entries.{word_none, word_some}
+use Rattle.nucleotides.proofs.Entries.{word_some}
 use Rattle.nucleotides.proofs.table.put_word.Goals as goal
-
-pub returns-then-n-eq0 : goal.returns-then-n-eq0
-returns-then-n-eq0 c =
-    let a = c.args in
-    rw (word_none a.w a.n c.if-n-eq0.true) (store_none (λ (k : ℕ). k) a.at a.out.now)
 
 pub returns : goal.returns
 returns c =
     let a = c.args in
-    let e = word_some a.w a.n c.if-n-eq0.false in
-    let h = c.requires.2 in
-    let l : a.at + 4 ≤ length a.out.now = omega (arith, ap length e, length-number big 4 (table_word a.w a.n)) in
-    c.put_be_u32.ensures
+    let e = word_some (bytes_of a.width) a.n c.if-n-eq0.false in
+    let h = c.requires.1 in
+    let l : a.at + 4 ≤ length a.out.now = omega (arith, ap length e, length-number big 4 (table_word (bytes_of a.width) a.n)) in
+    c.put.ensures
     ∙ ap (λ (x : ℕ). number_put big 4 a.at x a.out.now) c.table_word.ensures
-    ∙ put_fits big 4 a.at (table_word a.w a.n) a.out.now l
+    ∙ put_fits big 4 a.at (table_word (bytes_of a.width) a.n) a.out.now l
     ∙ ap (λ (xs : List ℕ). written_at a.at xs a.out.now) (sym e)

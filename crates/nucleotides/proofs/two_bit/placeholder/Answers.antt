@@ -8,4 +8,4 @@ use Rattle.nucleotides.proofs.two_bit.placeholder.Goals as goal
 
 pub returns : goal.returns
 returns c =
-    record { value = ap (λ (v : ℕ). count_trailing_zeros 32 (v + 16) % 4) c.ambiguity_value-v.ensures ∙ placeholder-is c.args.code; small = omega arith }
+    record { value = ap (λ (v : ℕ). count_trailing_zeros 32 (v + 16) % 4) (c.from-v.ensures ∙ c.ambiguity_value.ensures) ∙ placeholder-is c.args.code; small = omega arith }

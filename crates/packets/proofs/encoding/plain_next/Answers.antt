@@ -1,6 +1,6 @@
 -- `packets::encoding::plain_next`: a mask over four numbers of four codes. Assumes nothing.
 use mathlib.Core.Path.{sym}
-use native.Mathlib.Omega.{arith}
+use Rattle.std.proofs.Common.{rules}
 use Rattle.packets.proofs.Packing.{plain-short}
 use Rattle.packets.proofs.Bases.{plain_fours}
 use Rattle.packets.proofs.encoding.plain_next.Goals as goal
@@ -11,7 +11,7 @@ returns-then-next-lt15 c = sym (plain-short 15 c.args.next.now c.if-next-lt15.tr
 pub returns : goal.returns
 returns c =
     plain_fours c.args.next.now
-    (λ k. omega (arith, c.shared_slice_known-1.given k)) c.four_at.result
+    (λ k. search rules) c.four_at.result
     c.four_at-2.result c.four_at-3.result c.four_at-4.result c.if-next-lt15.false
     c.four_at.ensures.value c.four_at-2.ensures.value c.four_at-3.ensures.value
     c.four_at-4.ensures.value

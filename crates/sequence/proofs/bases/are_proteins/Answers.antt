@@ -1,5 +1,6 @@
 -- `sequence::bases::are_proteins`: no byte is above the largest protein byte exactly where the largest is not. Assumes nothing.
 use lib.Dec.{leb}
+use lib.ListN.{length}
 use mathlib.Core.Path.{sym, ap, ◌∙◌}
 use Prim.Native.Nat.{ℕ}
 use Rattle.laws.proofs.Largest.{every-most}
@@ -8,5 +9,5 @@ use Rattle.sequence.proofs.bases.are_proteins.Goals as goal
 
 pub returns : goal.returns
 returns c =
-    let a = c.args in
-    ap (λ (n : ℕ). leb n most_protein_byte) c.largest_byte.ensures ∙ sym (every-most (byte_from a.sequence.now a.start) most_protein_byte a.l)
+    let bytes = c.args.bytes.now in
+    ap (λ (n : ℕ). leb n most_protein_byte) c.largest_byte.ensures ∙ sym (every-most (byte_from bytes 0) most_protein_byte (length bytes))

@@ -3,4 +3,4 @@ use Rattle.sequence.proofs.FourBases.{four_bases}
 use Rattle.sequence.proofs.bases.bases.Goals as goal
 
 pub returns : goal.returns
-returns c = four_bases c.args.byte c.ranges.byte.fits
+returns c = rw (c.from-high.ensures, c.from-low.ensures) (four_bases c.args.byte c.ranges.byte.fits)

@@ -2,7 +2,7 @@
 -- Assumes nothing.
 use mathlib.Core.Path.{◌≡◌}
 use mathlib.Core.List.{List}
-use Prim.Native.Nat.{ℕ, ◌≤◌, ◌-◌, ◌*◌}
+use Prim.Native.Nat.{ℕ, ◌*◌}
 use lib.ListN.{length}
 use Rattle.laws.specs.Writing.{written_at}
 use Rattle.sequence.specs.Bases.{two_bit_residues}
@@ -10,11 +10,6 @@ use Rattle.sequence.proofs.bases.write_bases.Given as goal
 
 abbrev pub invariant-loop-k : goal.invariant-loop-k
 invariant-loop-k l =
-    (4 * l.whole ≤ l.k)
-    × (l.k ≤ l.l)
-    × (length l.out ≡ length l.initial.out)
-    × ((old : List ℕ) → length old ≡ length l.initial.out → l.initial.out ≡ written_at 0 (two_bit_residues l.sequence l.start (4 * l.whole)) old
-    → l.out ≡ written_at 0 (two_bit_residues l.sequence l.start l.k) old)
-
-abbrev pub decreases-loop-k : goal.decreases-loop-k
-decreases-loop-k l = l.l - l.k
+    (length l.out ≡ length l.initial.out)
+    × ((old : List ℕ) → length old ≡ length l.initial.out → l.initial.out ≡ written_at 0 (two_bit_residues l.bytes 0 (4 * l.whole)) old
+    → l.out ≡ written_at 0 (two_bit_residues l.bytes 0 l.k) old)

@@ -1,44 +1,32 @@
 -- `sequence::corrections::check_table`: the two rules in their order. Assumes nothing.
-use mathlib.Core.Path.{◌≡◌, sym, ◌∙◌}
-use mathlib.Core.Bool.{Bool, true, false}
-use native.Mathlib.Omega.{arith}
+use mathlib.Core.Path.{◌≡◌, refl, sym, ◌∙◌}
 use Prim.Native.Nat.{◌+◌}
+use native.Mathlib.Omega.{arith}
 use Rattle.laws.specs.Places.{every}
-use Rattle.sequence.specs.Corrections.{is_table, entry_width, entry_count, entry_fits}
-use Rattle.sequence.proofs.Ranges.{entry_in_file}
+use Rattle.sequence.specs.Corrections.{entry_width, entry_count, entry_fits}
+use Rattle.sequence.proofs.Ranges.{by_width, entries-lie, table_some}
 use Rattle.sequence.proofs.corrections.check_table.Goals as goal
 
--- what the two tests were told, in the definition's terms
-
-pub is_table-requires : goal.is_table-requires
-is_table-requires c = omega arith
-
-pub returns-then-not-is_table : goal.returns-then-not-is_table
-returns-then-not-is_table c = let a = c.args in
-    let t : is_table a.sequence.now a.place a.end ≡ false = sym c.is_table.ensures ∙ c.if-not-is_table.true in
-    rw t
-
 pub entries_fit-requires : goal.entries_fit-requires
-entries_fit-requires c = let a = c.args in
-    let w = c.entry_width-w in
-    let n = c.entry_count-n in
-    let t = sym c.is_table.ensures ∙ c.if-not-is_table.false in
-    (w.ensures.either, entry_in_file a.sequence.now a.place a.end w.result n.result t (omega arith) w.ensures.value n.ensures)
+entries_fit-requires c =
+    let a = c.args in
+    let told = table_some a.sequence.now a.place a.end _ (sym c.entries_of.ensures ∙ c.in-Some.is) in
+    rw told.1 (entries-lie a.sequence.now a.place a.end told.0 (omega arith))
 
 pub returns-then-not-entries_fit : goal.returns-then-not-entries_fit
 returns-then-not-entries_fit c =
-    let IsTable : Bool = is_table c.args.sequence.now c.args.place c.args.end in
-    let Fit : Bool = every (entry_fits c.args.sequence.now (c.args.place + 4) (entry_width c.args.sequence.now c.args.place) c.args.l)
-    (entry_count c.args.sequence.now c.args.place c.args.end) in
-    let table : IsTable ≡ true = sym c.is_table.ensures ∙ c.if-not-is_table.false in
-    let fit : c.entries_fit.result ≡ Fit = rw (c.entry_width-w.ensures.value, c.entry_count-n.ensures) at c.entries_fit.ensures in
-    rw (table, sym (fit) ∙ c.if-not-entries_fit.true)
+    let a = c.args in
+    let s = a.sequence.now in
+    let told = table_some s a.place a.end _ (sym c.entries_of.ensures ∙ c.in-Some.is) in
+    let fit : c.entries_fit.result ≡ every (entry_fits s (a.place + 4) (entry_width s a.place) a.l) (entry_count s a.place a.end) =
+    rw told.1 at c.entries_fit.ensures ∙ by_width s a.place a.end (λ w. every (entry_fits s (a.place + 4) w a.l)) (λ v w. refl) in
+    rw (told.0, ← fit, c.if-not-entries_fit.true) refl
 
 pub returns : goal.returns
 returns c =
-    let IsTable : Bool = is_table c.args.sequence.now c.args.place c.args.end in
-    let Fit : Bool = every (entry_fits c.args.sequence.now (c.args.place + 4) (entry_width c.args.sequence.now c.args.place) c.args.l)
-    (entry_count c.args.sequence.now c.args.place c.args.end) in
-    let table : IsTable ≡ true = sym c.is_table.ensures ∙ c.if-not-is_table.false in
-    let fit : c.entries_fit.result ≡ Fit = rw (c.entry_width-w.ensures.value, c.entry_count-n.ensures) at c.entries_fit.ensures in
-    rw (table, sym (fit) ∙ c.if-not-entries_fit.false)
+    let a = c.args in
+    let s = a.sequence.now in
+    let told = table_some s a.place a.end _ (sym c.entries_of.ensures ∙ c.in-Some.is) in
+    let fit : c.entries_fit.result ≡ every (entry_fits s (a.place + 4) (entry_width s a.place) a.l) (entry_count s a.place a.end) =
+    rw told.1 at c.entries_fit.ensures ∙ by_width s a.place a.end (λ w. every (entry_fits s (a.place + 4) w a.l)) (λ v w. refl) in
+    rw (told.0, ← fit, c.if-not-entries_fit.false, told.1) refl

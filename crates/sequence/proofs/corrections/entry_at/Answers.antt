@@ -9,18 +9,13 @@ use Rattle.sequence.proofs.corrections.entry_at.Goals as goal
 pub returns-then-w-eq4 : goal.returns-then-w-eq4
 returns-then-w-eq4 c =
     let a = c.args in
-    let e = c.if-w-eq4.true in
-    record { value = rw e (c.be_u32.ensures ∙ part_unsigned 4 a.sequence.now a.at (a.at + 4) refl); small = rw e (omega arith) }
-
-pub overflow_add-end-2 : goal.overflow_add-end-2
-overflow_add-end-2 c = let e = width_eight c.args.w c.requires.0 c.if-w-eq4.false in omega (arith, c.requires.1)
-
-pub slice_bounds-be_u64-end : goal.slice_bounds-be_u64-end
-slice_bounds-be_u64-end c = let e = width_eight c.args.w c.requires.0 c.if-w-eq4.false in omega
-    (arith, c.requires.1)
+    let e = c.if-w-eq4.true in record {
+      value = rw e (c.from.ensures ∙ c.read.ensures ∙ part_unsigned 4 a.sequence.now a.at (a.at + 4) refl);
+      small = rw e (let f = c.from.ensures in omega arith);
+    }
 
 pub returns : goal.returns
 returns c =
     let a = c.args in
     let e : a.w ≡ 8 = width_eight a.w c.requires.0 c.if-w-eq4.false in
-    record { value = rw e (c.be_u64.ensures ∙ part_unsigned 8 a.sequence.now a.at (a.at + 8) refl); small = rw e (omega arith) }
+    record { value = rw e (c.read-2.ensures ∙ part_unsigned 8 a.sequence.now a.at (a.at + 8) refl); small = rw e (omega arith) }

@@ -8,4 +8,4 @@ pub write_eights-requires : goal.write_eights-requires
 unfolding digits
 write_eights-requires c =
     let pre = c.requires in
-    (pre.0, pre.1, pre.2, table-holds _ refl)
+    (pre.0, pre.1, table-holds _ refl)

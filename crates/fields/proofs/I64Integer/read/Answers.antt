@@ -1,0 +1,10 @@
+-- `<i64 as Integer>::read`: the number of eight bytes in two's complement. Assumes nothing.
+use mathlib.Core.Path.{◌∙◌}
+use mir.Syntax.{w64}
+use Rattle.fields.proofs.Laws.{machine_signed, signed_field}
+use Rattle.fields.proofs.I64Integer.read.Goals as goal
+
+pub returns : goal.returns
+returns c =
+    let a = c.args in
+    signed_field a.order w64 a.file.now a.place c.cast_signed.type_inv (c.cast_signed.ensures ∙ machine_signed w64 _) c.read.ensures

@@ -1,8 +1,0 @@
--- `fields::be_i64`: the unsigned field in two's complement. Assumes nothing.
-use mir.Syntax.{w64}
-use Rattle.fields.specs.Number.{big}
-use Rattle.fields.proofs.Laws.{signed_field}
-use Rattle.fields.proofs.be_i64.Goals as goal
-
-pub returns : goal.returns
-returns c = signed_field big w64 _ _ c.signed8.type_inv c.signed8.ensures c.be_u64.ensures

@@ -1,9 +1,0 @@
--- `fields::le_u32`: the number of its four bytes. Assumes nothing.
-use Rattle.fields.specs.Number.{little}
-use Rattle.fields.proofs.Laws.{field_number}
-use Rattle.fields.proofs.le_u32.Goals as goal
-
-pub returns : goal.returns
-returns c =
-    let a = c.args in field_number little 4 c.four.result a.s.now a.at c.little_endian.ensures
-    c.four.ensures

@@ -1,5 +1,0 @@
--- `listing::put_decimal`: a tenth of the number is smaller.
-use Rattle.listing.proofs.+put_decimal.Given as goal
-
-abbrev pub decreases-put_decimal : goal.decreases-put_decimal
-decreases-put_decimal l = l.n
