@@ -103,7 +103,7 @@ fn stated(z: i32) -> u64
 fn check_own(size: usize, low: i32, high: i32) -> Result<(), Refusal>
     ensures { result ≡ checked_by (own_rules size low high) }
 {
-    if low < 0 || high < low || (size as u64) < stated(high) {
+    if low < 0 || high < low || size < high as usize {
         return Err(Refusal::BadOffsets);
     }
     Ok(())

@@ -19,7 +19,7 @@ use Rattle.laws.proofs.Writing.{length_written}
 use Rattle.residues.specs.Tables.{ambiguity_code}
 use Rattle.sequence.specs.declared.Correction.{Correction}
 use Rattle.sequence.specs.declared.RangeEntries.{RangeEntries}
-use Rattle.sequence.specs.Tabled.{range_width, range_entries}
+use Rattle.sequence.specs.Tabled.{width_bytes, range_width, range_entries}
 use Rattle.sequence.specs.Corrections.{correction_at, correction_end, corrections_at, range_corrections, painted, corrected, covers, corrected_at}
 use Rattle.sequence.specs.Corrections.{correction_in, Apart, EndWithin, entry_fits, entry_width, entry_count, range_rules}
 use Rattle.sequence.specs.Bases.{base_at, two_bit_residues}
@@ -163,10 +163,10 @@ module _ (sequence : List ℕ) (start place end l : ℕ) (h : AllHold (range_rul
   -- the bases written, and then the corrections over them
   pub residues_written : (entries : RangeEntries) (old bases out : List ℕ) → entries ≡ range_entries sequence place end
       → bases ≡ written_at 0 (two_bit_residues sequence start l) old
-      → out ≡ corrected (corrections_at sequence entries.start entries.width entries.count) bases
+      → out ≡ corrected (corrections_at sequence entries.start (width_bytes entries.width) entries.count) bases
       → out ≡ written_at 0 (dna_residues sequence start place end l) old
   residues_written entries old bases out e b o =
-      let same : corrections_at sequence (place + 4) (range_width sequence place end) (entry_count sequence place end) ≡ range_corrections sequence place end =
+      let same : corrections_at sequence (place + 4) (width_bytes (range_width sequence place end)) (entry_count sequence place end) ≡ range_corrections sequence place end =
       by_width sequence place end (corrections_at sequence (place + 4)) (λ v w. refl) in
       o
       ∙ rw (e, b, same)

@@ -19,17 +19,19 @@ use Rattle.laws.proofs.Places.{every_at}
 use Rattle.laws.proofs.Tests.{bool_cases, both_pass}
 use Rattle.sequence.specs.declared.Correction.{Correction}
 use Rattle.sequence.specs.declared.RangeEntries.{RangeEntries}
-use Rattle.sequence.specs.Tabled.{range_width, range_entries, entries_of, LieInside}
-use Rattle.sequence.specs.Corrections.{first_word, stated_words, is_wide, is_table, entry_width, entry_count, correction_of, correction_at}
+use Rattle.sequence.specs.declared.Width.{Width}
+use Rattle.sequence.specs.declared.Width.TheVariants.{Narrow, Wide}
+use Rattle.sequence.specs.Tabled.{width_bytes, range_width, range_entries, entries_of, LieInside}
+use Rattle.sequence.specs.Corrections.{first_word, stated_words, is_wide, is_table, entry_width, entry_count, correction_at}
 use Rattle.sequence.specs.Corrections.{correction_end, end_before, entry_fits, range_rules}
 use Rattle.sequence.specs.Holds.{HasEntries, empty, narrow, wide}
 
 -- ---- the width of an entry
 
--- what is not 4 is 8
-pub width_eight : (w : ℕ) → (w ≡ 4) ⊎ (w ≡ 8) → (w ≡ 4 → ⊥) → w ≡ 8
-width_eight w (inl e) n = absurd (n e)
-width_eight w (inr e) n = e
+-- four or eight
+pub width_either : (w : Width) → (width_bytes w ≡ 4) ⊎ (width_bytes w ≡ 8)
+width_either Narrow = inl refl
+width_either Wide = inr refl
 
 -- the bits of an entry's fields, as the code shifts by them
 module _ (w : ℕ) (e : (w ≡ 4) ⊎ (w ≡ 8)) where
@@ -41,13 +43,6 @@ module _ (w : ℕ) (e : (w ≡ 4) ⊎ (w ≡ 8)) where
 
 pub power_shifted : (b : ℕ) → b < 64 → 1 * 2 ^ b % 18446744073709551616 ≡ 2 ^ b
 power_shifted b h = shl_exact {a = 1} 1 b 64 (lit< tt) (omega arith) ∙ one-mul (2 ^ b)
-
--- an entry's value is below 16, its offset below 2^48, and its repeat at most 4096
-pub correction_small : (w entry : ℕ) → (w ≡ 4) ⊎ (w ≡ 8) → entry < 2 ^ (8 * w)
-    → ((correction_of w entry).value < 16) × ((correction_of w entry).start < 281474976710656) × ((correction_of w entry).length ≤ 4096)
-unfolding correction_of
-correction_small w entry (inl e) h = let l : entry < 4294967296 = rw e at h in rw e (omega arith)
-correction_small w entry (inr e) h = let l : entry < 18446744073709551616 = rw e at h in rw e (omega arith)
 
 -- ---- the range
 
@@ -108,34 +103,32 @@ module _ (sequence : List ℕ) (place end : ℕ) where
     entry_inside (narrow h e f g) j l = rw f (omega arith)
     entry_inside (wide h e f g) j l = rw f (omega arith)
 
--- an entry has four or eight bytes
-pub width_either : (sequence : List ℕ) (place : ℕ) → (entry_width sequence place ≡ 4) ⊎ (entry_width sequence place ≡ 8)
+-- the bytes of the width that a range's word states
+bytes-stated : (sequence : List ℕ) (place : ℕ) → width_bytes (cond (is_wide sequence place) Wide Narrow) ≡ entry_width sequence place
 unfolding entry_width
-width_either sequence place = bool_cases (is_wide sequence place) (λ t. inr (rw t)) (λ f. inl (rw f))
+bytes-stated sequence place = bool_cases (is_wide sequence place) (λ t. rw t refl) (λ f. rw f refl)
 
 -- where there is an entry, the range has the width that its word states
-pub at_width : (sequence : List ℕ) (place end j : ℕ) → j < entry_count sequence place end → range_width sequence place end ≡ entry_width sequence place
+pub at_width : (sequence : List ℕ) (place end j : ℕ) → j < entry_count sequence place end → width_bytes (range_width sequence place end) ≡ entry_width sequence place
 unfolding entry_count
 at_width sequence place end j h =
-    bool_cases (eqb place end) (λ t. let none : j < 0 = rw t at h in absurd (omega arith)) (λ n. rw n refl)
+    bool_cases (eqb place end) (λ t. let none : j < 0 = rw t at h in absurd (omega arith)) (λ n. rw n (bytes-stated sequence place))
 
 -- what the width does not change where there is no entry is the same by both
 pub by_width : {X : Type 0} (sequence : List ℕ) (place end : ℕ) (f : ℕ → ℕ → X) → ((v w : ℕ) → f v 0 ≡ f w 0)
-    → f (range_width sequence place end) (entry_count sequence place end) ≡ f (entry_width sequence place) (entry_count sequence place end)
+    → f (width_bytes (range_width sequence place end)) (entry_count sequence place end) ≡ f (entry_width sequence place) (entry_count sequence place end)
 unfolding entry_count
-by_width sequence place end f same = bool_cases (eqb place end) (λ t. rw t (same 4 (entry_width sequence place))) (λ n. rw n refl)
+by_width sequence place end f same = bool_cases (eqb place end) (λ t. rw t (same 4 (entry_width sequence place)))
+    (λ n. rw n (ap (λ (w : ℕ). f w (cond false 0 (cond (is_wide sequence place) (stated_words sequence place / 2) (stated_words sequence place)))) (bytes-stated sequence place)))
 
 -- the entries of a range lie within the file
 pub entries-lie : (sequence : List ℕ) (place end : ℕ) → is_table sequence place end ≡ true → end ≤ length sequence
     → LieInside sequence (range_entries sequence place end)
 entries-lie sequence place end t h =
-    record {
-      width = bool_cases (eqb place end) (λ e. rw e (inl refl)) (λ n. rw n (width_either sequence place));
-      inside = λ j l.
-          rw (at_width sequence place end j l)
-          (let i = entry_inside sequence place end (entry_width sequence place) (entry_count sequence place end) (table_of sequence place end t) j l in
-          omega arith);
-    }
+    λ j l.
+    rw (at_width sequence place end j l)
+    (let i = entry_inside sequence place end (entry_width sequence place) (entry_count sequence place end) (table_of sequence place end t) j l in
+    omega arith)
 
 -- a range that gives entries is a table, and they are its own
 pub table_some : (sequence : List ℕ) (place end : ℕ) (e : RangeEntries) → entries_of sequence place end ≡ Some e
@@ -150,35 +143,34 @@ table_some sequence place end e = by_test (is_table sequence place end)
 -- ---- the entries that a range's first word states
 
 -- four bytes an entry where the top bit is clear, else eight
-abbrev pub HasWidth : ℕ → ℕ → Type 0
-HasWidth word width = ((word < 2147483648) × (width ≡ 4)) ⊎ ((2147483648 ≤ word) × (width ≡ 8))
+abbrev pub HasWidth : ℕ → Width → Type 0
+HasWidth word width = ((word < 2147483648) × (width ≡ Narrow)) ⊎ ((2147483648 ≤ word) × (width ≡ Wide))
 
 -- an empty range has none
-pub entries-empty : (sequence : List ℕ) (place end : ℕ) → place ≡ end → Some (record { start = place + 4; width = 4; count = 0 }) ≡ entries_of sequence place end
+pub entries-empty : (sequence : List ℕ) (place end : ℕ) → place ≡ end → Some (record { start = place + 4; width = Narrow; count = 0 }) ≡ entries_of sequence place end
 entries-empty sequence place end e =
     let h : HasEntries sequence place end 4 0 = empty e refl in
     rw (table_test sequence place end 4 0 h, count_of sequence place end 4 0 h, eq-eqb place end e)
 
-module _ (sequence : List ℕ) (place end word width : ℕ) (read : word ≡ first_word sequence place) (told : HasWidth word width) where
+module _ (sequence : List ℕ) (place end word : ℕ) (width : Width) (read : word ≡ first_word sequence place) (told : HasWidth word width) where
   abbrev words : ℕ
   words = word % 2147483648
 
-  width_told : width ≡ entry_width sequence place
-  unfolding entry_width
+  width_told : width ≡ cond (is_wide sequence place) Wide Narrow
   width_told = rw (← read) (⊎_elim (λ n. rw (lt-leb 2147483648 word n.0) n.1) (λ w. rw (le-leb 2147483648 word w.0) w.1) told)
 
   -- its words are as many whole entries as they have room for
-  module _ (e : place + 4 + 4 * words ≡ end) (g : width * (4 * words / width) ≡ 4 * words) where
-    has : HasEntries sequence place end width (4 * words / width)
+  module _ (e : place + 4 + 4 * words ≡ end) (g : width_bytes width * (4 * words / width_bytes width) ≡ 4 * words) where
+    has : HasEntries sequence place end (width_bytes width) (4 * words / width_bytes width)
     has =
-        ⊎_elim (λ n. narrow (rw read at n.0) (rw read at e) n.1 (rw (n.1, ← read) (omega arith)))
-        (λ w. let whole : 8 * (4 * words / 8) ≡ 4 * words = rw w.1 at g in wide (rw read at w.0) (rw read at e) w.1 (rw (w.1, ← read) (omega arith))) told
+        ⊎_elim (λ n. narrow (rw read at n.0) (rw read at e) (ap width_bytes n.1) (rw (n.1, ← read) (omega arith)))
+        (λ w. let whole : 8 * (4 * words / 8) ≡ 4 * words = rw w.1 at g in wide (rw read at w.0) (rw read at e) (ap width_bytes w.1) (rw (w.1, ← read) (omega arith))) told
 
-    pub entries-some : Some (record { start = place + 4; width = width; count = 4 * words / width }) ≡ entries_of sequence place end
-    entries-some = rw (table_test sequence place end width _ has, count_of sequence place end width _ has, some_words sequence place end words e, ← width_told)
+    pub entries-some : Some (record { start = place + 4; width = width; count = 4 * words / width_bytes width }) ≡ entries_of sequence place end
+    entries-some = rw (table_test sequence place end (width_bytes width) _ has, count_of sequence place end (width_bytes width) _ has, some_words sequence place end words e, ← width_told)
 
   -- its words are no whole entries, or end elsewhere
-  module _ (n : place ≡ end → ⊥) (m : place + 4 + 4 * words ≡ end → width * (4 * words / width) ≡ 4 * words → ⊥) where
+  module _ (n : place ≡ end → ⊥) (m : place + 4 + 4 * words ≡ end → width_bytes width * (4 * words / width_bytes width) ≡ 4 * words → ⊥) where
     wrong : (w k : ℕ) → HasEntries sequence place end w k → ⊥
     wrong w k (empty e z) = n e
     wrong w k (narrow h e f g) =

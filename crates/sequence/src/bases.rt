@@ -1,13 +1,14 @@
 // Residues out of bytes: two-bit residues, four to a byte, and protein residues, one to a byte.
 ghost use Rattle.std.specs.Prelude.{◌≡◌, ℕ, ◌+◌, ◌*◌, ◌-◌, ◌/◌, ◌≤◌, ◌<◌, length};
-ghost use Rattle.laws.specs.Places.{every, largest_to};
+ghost use Rattle.laws.specs.Places.{every};
 ghost use Rattle.laws.specs.Writing.{written_at};
 ghost use Rattle.sequence.specs.Bases.{bases_of, two_bit_residues};
 ghost use Rattle.residues.specs.Tables.{protein_code};
 ghost use Rattle.sequence.specs.Mended.{where_is, AreProteins, residues_from};
-ghost use Rattle.sequence.specs.Sequence.{byte_from, most_protein_byte, is_protein_byte, protein_residues};
+ghost use Rattle.sequence.specs.Sequence.{most_protein_byte, is_protein_byte, protein_residues};
 
 use super::table::write_by_table;
+use residues::largest_code;
 
 // The four bases of a byte, two of each half. The product holds the half byte twice, from bit 0 and from bit 10 on: written so, the
 // loop over many bytes is compiled to vector code, three times as fast as one that shifts each base out of the byte.
@@ -67,22 +68,11 @@ pub(crate) fn write_bases(bytes: &[u8], l: usize, out: &mut [u8])
     }
 }
 
-// The largest of some bytes.
-fn largest_byte(bytes: &[u8]) -> u8
-    ensures { result ≡ largest_to (byte_from bytes.now 0) (length bytes.now) }
-{
-    let mut top: u8 = 0;
-    for &byte in bytes {
-        top = top.max(byte);
-    }
-    top
-}
-
 // Whether each of some bytes is a protein value.
 pub(crate) fn are_proteins(bytes: &[u8]) -> bool
     ensures { result ≡ every (is_protein_byte bytes.now 0) (length bytes.now) }
 {
-    largest_byte(bytes) <= 27
+    largest_code(bytes) <= 27
 }
 
 // A number where a byte is a given one, else 0.

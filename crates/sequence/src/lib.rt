@@ -23,11 +23,18 @@ pub struct Entry {
     pub next: usize,
 }
 
-// The entries of an ambiguity range: where the first starts, how many bytes each has, 4 or 8, and how many they are.
+// How many bytes an entry of an ambiguity range has: 4 or 8.
 #[derive(Clone, Copy)]
-pub struct RangeEntries {
+pub(crate) enum Width {
+    Narrow,
+    Wide,
+}
+
+// The entries of an ambiguity range: where the first starts, how wide each is, and how many they are.
+#[derive(Clone, Copy)]
+pub(crate) struct RangeEntries {
     pub start: usize,
-    pub width: usize,
+    pub width: Width,
     pub count: usize,
 }
 

@@ -1,13 +1,16 @@
 -- What an index that was read says, and where the tables lie. Assumes nothing.
-use mathlib.Core.Path.{◌≡◌, refl, ap, ◌∙◌}
+use mathlib.Core.Path.{◌≡◌, refl, sym, ap, ◌∙◌}
 use mathlib.Core.List.{List}
-use Prim.Native.Nat.{ℕ, zero, suc, ◌+◌, ◌-◌, ◌≤◌}
+use Prim.Native.Nat.{ℕ, zero, suc, ◌+◌, ◌-◌, ◌≤◌, ◌<◌}
+use mathlib.Core.Logic.{⊎_elim}
 use mathlib.Core.Bool.{false}
 use native.Mathlib.Nat.{zero-add}
 use native.Mathlib.Omega.{arith}
-use borrow.Author.Tests.{leb-true}
+use borrow.Author.Tests.{leb-true, ne_eqb}
 use lib.ListN.{length, get_or, take, drop, length-drop}
 use lib.Seq.{get_or-take, get_or-drop, length-take-le}
+use Rattle.std.specs.Prelude.{◌≢◌}
+use Rattle.std.proofs.Math.Nat.{eq-or-lt_of_le}
 use Rattle.laws.specs.Rules.{AllHold}
 use Rattle.laws.proofs.Choices.{cond_elim}
 use Rattle.fields.specs.Number.{big, number, bytes_at, signed, signed_at, unsigned_at}
@@ -64,3 +67,17 @@ pub trim_whole : (file : List ℕ) (at end : ℕ) → end ≤ length file
 trim_whole file at end h =
     let e : length (take (end - at) (drop at file)) ≡ end - at = length-take-le (end - at) (drop at file) (omega (arith, length-drop at file)) in
     rw e (trim_part file at (end - at) (end - at) (omega arith))
+
+-- no byte but NULs
+pub trim_none : (file : List ℕ) (n : ℕ) → ((k : ℕ) → k < n → get_or file k 0 ≡ 0) → trimmed_length file 0 n ≡ 0
+trim_none file zero nul = refl
+trim_none file (suc n) nul = rw (zero-add n, nul n (omega arith)) (trim_none file n (λ k l. nul k (omega arith)))
+
+-- a byte that is no NUL, and none but NULs behind it
+pub trim_last : (file : List ℕ) (i n : ℕ) → i < n → get_or file i 0 ≢ 0 → ((k : ℕ) → i + 1 ≤ k → k < n → get_or file k 0 ≡ 0)
+    → trimmed_length file 0 n ≡ i + 1
+trim_last file i zero l some nul = omega arith
+trim_last file i (suc n) l some nul =
+    ⊎_elim (λ (e : i ≡ n). rw (zero-add n, sym e, ne_eqb _ _ some) (omega arith))
+    (λ (g : i < n). rw (zero-add n, nul n (omega arith) (omega arith)) (trim_last file i n g some (λ k a b. nul k a (omega arith))))
+    (eq-or-lt_of_le (omega arith))

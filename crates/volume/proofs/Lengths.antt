@@ -17,9 +17,9 @@ use Rattle.volume.specs.Tables.{protein_offset_rules, dna_offset_rules}
 use Rattle.volume.proofs.Named.{nul_behind}
 use Rattle.volume.proofs.Natural.{protein_natural, protein-rises, protein_to, natural_start, natural_end, dna-rises, dna-inside}
 
--- an offset of a table whose place is known
-pub place_at : (index : List ℕ) {table t : ℕ} (k r : ℕ) → table ≡ t → r ≡ to_nat (offset_at index table k) → r ≡ to_nat (offset_at index t k)
-place_at index k r e f = f ∙ ap (λ (x : ℕ). to_nat (offset_at index x k)) e
+-- an offset of a table whose file and place are known
+pub place_at : {file index : List ℕ} {table t : ℕ} (k r : ℕ) → file ≡ index → table ≡ t → r ≡ to_nat (offset_at file table k) → r ≡ to_nat (offset_at index t k)
+place_at k r same e f = f ∙ rw (same, e)
 
 -- the length of a protein sequence, from its start and from the place of its separator
 pub protein-length : (index : List ℕ) (k low end len : ℕ) → low ≡ sequence_start index k → end ≡ protein_end index k → len ≡ end - low
@@ -46,14 +46,15 @@ pub record ProteinTurn (index sequence : List ℕ) (i low next : ℕ) : Type 0 w
   pub long : next - 1 - low ≡ protein_length index i
   pub nul : eqb (get_or sequence (next - 1) 0) 0 ≡ nul_behind index sequence i
 
-module _ (index sequence : List ℕ) (h : AllHold (protein_offset_rules index sequence)) (table : ℕ) (t : table ≡ sequence_table index) where
-  pub protein-read : (k : ℕ) → k ≤ sequences index → non_neg (offset_at index table k) ≡ true
-  protein-read k l = ap (λ (x : ℕ). non_neg (offset_at index x k)) t ∙ protein_natural index sequence h k l
+module _ (index sequence : List ℕ) (h : AllHold (protein_offset_rules index sequence)) {file : List ℕ} {table : ℕ} (same : file ≡ index)
+    (t : table ≡ sequence_table index) where
+  pub protein-read : (k : ℕ) → k ≤ sequences index → non_neg (offset_at file table k) ≡ true
+  protein-read k l = rw (same, t) (protein_natural index sequence h k l)
 
-  pub protein_turn : (i low next : ℕ) → i < sequences index → low ≡ sequence_start index i → next ≡ to_nat (offset_at index table (i + 1))
+  pub protein_turn : (i low next : ℕ) → i < sequences index → low ≡ sequence_start index i → next ≡ to_nat (offset_at file table (i + 1))
       → ProteinTurn index sequence i low next
   protein_turn i low next l p q =
-      let e = place_at index (i + 1) next t q in
+      let e = place_at (i + 1) next same t q in
       let a = protein-rises index sequence h i l in
       let b = protein_to index sequence h i l in
       record {
@@ -72,17 +73,17 @@ pub record DnaTurn (index sequence : List ℕ) (i start end : ℕ) : Type 0 wher
   pub long : 4 * (end - 1 - start) + get_or sequence (end - 1) 0 % 4 ≡ dna_length index sequence i
 
 module _ (index sequence : List ℕ) (h : AllHold (dna_offset_rules index sequence)) (i : ℕ) (l : i < sequences index) where
-  pub start-read : (s : ℕ) → s ≡ sequence_table index → non_neg (offset_at index s i) ≡ true
-  start-read s t = ap (λ (x : ℕ). non_neg (offset_at index x i)) t ∙ natural_start index sequence h i (omega arith)
+  pub start-read : {file : List ℕ} {s : ℕ} → file ≡ index → s ≡ sequence_table index → non_neg (offset_at file s i) ≡ true
+  start-read same t = rw (same, t) (natural_start index sequence h i (omega arith))
 
-  pub end_read : (a : ℕ) → a ≡ ambiguity_table index → non_neg (offset_at index a i) ≡ true
-  end_read a u = ap (λ (x : ℕ). non_neg (offset_at index x i)) u ∙ natural_end index sequence h i l
+  pub end_read : {file : List ℕ} {a : ℕ} → file ≡ index → a ≡ ambiguity_table index → non_neg (offset_at file a i) ≡ true
+  end_read same u = rw (same, u) (natural_end index sequence h i l)
 
-  pub dna_turn : (s a start end : ℕ) → s ≡ sequence_table index → a ≡ ambiguity_table index → start ≡ to_nat (offset_at index s i)
-      → end ≡ to_nat (offset_at index a i) → DnaTurn index sequence i start end
-  dna_turn s a start end t u p q =
-      let e = place_at index i start t p in
-      let f = place_at index i end u q in
+  pub dna_turn : {file other : List ℕ} {s a : ℕ} (start end : ℕ) → file ≡ index → s ≡ sequence_table index → other ≡ index → a ≡ ambiguity_table index
+      → start ≡ to_nat (offset_at file s i) → end ≡ to_nat (offset_at other a i) → DnaTurn index sequence i start end
+  dna_turn start end same t like u p q =
+      let e = place_at i start same t p in
+      let f = place_at i end like u q in
       let x = dna-rises index sequence h i l in
       let y = dna-inside index sequence h i l in
       let g : end - 1 - start ≡ end - start - 1 = omega arith in

@@ -1,8 +1,7 @@
 // The fixed fields of an index, each at the place that the fields before it give, and their rules.
 ghost use Rattle.std.specs.Prelude.{◌≡◌, ◌<◌, pos};
-ghost use Rattle.std.specs.Int.Signed.{non_neg};
-ghost use Rattle.laws.specs.Signed.{to_nat, eq_z};
-ghost use Rattle.fields.specs.Number.{big, little, signed_at};
+ghost use Rattle.laws.specs.Signed.{eq_z};
+ghost use Rattle.fields.specs.Number.{big, signed_at};
 ghost use Rattle.answers.specs.Limits.{checked_by};
 ghost use Rattle.volume.specs.Index.{is_type, title_end, timestamp_end, tables_end};
 ghost use Rattle.volume.specs.Index.{title_rules, timestamp_rules, count_rules, table_rules, index_rules, index_of};
@@ -16,20 +15,6 @@ const MOST_SEQUENCES: usize = 134217728;
 
 // The timestamp ends at a multiple of this.
 const TIMESTAMP_ALIGNMENT: usize = 4;
-
-// Whether the integer of eight bytes, little-endian, at a place is not negative.
-fn not_negative_wide_at(index: &[u8], at: usize) -> bool
-    ensures { result ≡ non_neg (signed_at little 8 index.now at) }
-{
-    !read::<i64>(Order::Little, index, at).is_negative()
-}
-
-// The size that the integer of eight bytes, little-endian, at a place states; 0 for a negative one.
-fn natural_wide_at(index: &[u8], at: usize) -> usize
-    ensures { result ≡ to_nat (signed_at little 8 index.now at) }
-{
-    usize::try_from(read::<i64>(Order::Little, index, at)).unwrap_or(0)
-}
 
 // Whether the integer at a place is a given size.
 pub(crate) fn states_at(index: &[u8], at: usize, size: usize) -> bool
@@ -61,7 +46,7 @@ pub(crate) fn numbers(index: &[u8]) -> Index
         title_length: title,
         timestamp_length: timestamp,
         sequences: n,
-        residues: natural_wide_at(index, at + 4),
+        residues: read::<i64>(Order::Little, index, at + 4).max(0) as usize,
         longest: natural_at(index, at + 12),
         header_table: at + 16,
         sequence_table: at + 16 + size,
@@ -181,7 +166,7 @@ impl<'a> Fields<'a> {
         if index.len() < at + 12 {
             return Err(Refusal::TooShort);
         }
-        if !not_negative_wide_at(index, at + 4) {
+        if read::<i64>(Order::Little, index, at + 4).is_negative() {
             return Err(Refusal::OutOfRange);
         }
         if index.len() < at + 16 {

@@ -69,12 +69,10 @@ fn check_sizes(index: &[u8], sequence: &[u8], header: &[u8]) -> Result<(), Refus
 fn trimmed(text: &[u8]) -> usize
     ensures { result ≡ trimmed_length text.now 0 (length text.now) }
 {
-    for n in (0..text.len()).rev() {
-        if text[n] != 0 {
-            return n + 1;
-        }
+    match text.iter().rposition(|&byte| byte != 0) {
+        Some(last) => last + 1,
+        None => 0,
     }
-    0
 }
 
 // The check of a whole volume: its numbers, and where title and timestamp stand in the index.

@@ -5,7 +5,7 @@ ghost use Rattle.laws.specs.Places.{every};
 ghost use Rattle.laws.specs.Rules.{AllHold};
 ghost use Rattle.laws.specs.Signed.{to_nat, eq_z};
 ghost use Rattle.answers.specs.Limits.{checked_by};
-ghost use Rattle.volume.specs.Index.{is_protein, index_of, tables_end};
+ghost use Rattle.volume.specs.Index.{is_protein, header_table, sequence_table, ambiguity_table, sequences, index_of, tables_end};
 ghost use Rattle.volume.specs.Tables.{offset_at, StepsTell, ambiguity_between, header_offset_rules, protein_offset_rules};
 ghost use Rattle.volume.specs.Tables.{dna_offset_rules, sequence_offset_rules, offset_rules, protein_length, two_bit_length, dna_length};
 ghost use Rattle.volume.specs.Tables.{protein_separator_rules, separator_rules, stated_rules, totals_of, total_rules};
@@ -86,6 +86,14 @@ impl Table<'_> {
         good
     }
 
+    // Whether the offsets start at a size, end at another, and each but the last passes a test with the one behind it.
+    fn spans<F: Fn(i32, i32) -> bool>(&self, first: usize, passes: F, last: usize) -> bool
+        requires { F.IsAlwaysCallable passes }
+        ensures { (test : ℕ → Bool) → StepsTell (offset_at self.now.index.now self.now.start) (F.post passes) test self.now.steps → result ≡ (eq_z (offset_at self.now.index.now self.now.start 0) (pos first) && every test self.now.steps) && eq_z (offset_at self.now.index.now self.now.start self.now.steps) (pos last) }
+    {
+        self.states(0, first) && self.each_step(passes) && self.states(self.steps, last)
+    }
+
     // Whether S[k] < A[k] <= S[k+1] for each k but the last, of this table S and a table A of the same index.
     fn ambiguity_between(&self, ends: &Self) -> bool
         requires index { ends.now.index.now ≡ self.now.index.now }
@@ -123,7 +131,7 @@ pub(crate) struct Tables<'a> {
 }
 
 #[tactic(auto, using(crate::proofs::Facts::two_tables, crate::proofs::Facts::third_table, crate::proofs::Reading::tables_near), unfolding(crate::specs::Index::index_of))]
-impl Tables<'_> {
+impl<'a> Tables<'a> {
     fn is_protein(&self) -> bool
         ensures { result ≡ is_protein self.now.index.now }
     {
@@ -131,18 +139,52 @@ impl Tables<'_> {
     }
 
     // The header offsets.
+    fn headers(&self) -> Table<'a>
+        ensures index { result.index.now ≡ self.now.index.now }
+        ensures start { result.start ≡ header_table self.now.index.now }
+        ensures steps { result.steps ≡ sequences self.now.index.now }
+    {
+        Table {
+            index: self.index,
+            start: self.numbers.header_table,
+            steps: self.numbers.sequences,
+        }
+    }
+
+    // The offsets at which the sequences start.
+    fn starts(&self) -> Table<'a>
+        ensures index { result.index.now ≡ self.now.index.now }
+        ensures start { result.start ≡ sequence_table self.now.index.now }
+        ensures steps { result.steps ≡ sequences self.now.index.now }
+    {
+        Table {
+            index: self.index,
+            start: self.numbers.sequence_table,
+            steps: self.numbers.sequences,
+        }
+    }
+
+    // The offsets at which the two-bit bytes of a DNA volume's sequences end.
+    fn ends(&self) -> Table<'a>
+        requires { is_protein self.now.index.now ≡ false }
+        ensures index { result.index.now ≡ self.now.index.now }
+        ensures start { result.start ≡ ambiguity_table self.now.index.now }
+        ensures steps { result.steps ≡ sequences self.now.index.now }
+    {
+        Table {
+            index: self.index,
+            start: self.numbers.ambiguity_table,
+            steps: self.numbers.sequences,
+        }
+    }
+
+    // The rules of the header offsets.
     fn check_header_offsets(&self, header: &[u8]) -> Result<(), Refusal>
         ensures { result ≡ checked_by (header_offset_rules self.now.index.now header.now) }
     {
-        let n = self.numbers.sequences;
-        let table = Table {
-            index: self.index,
-            start: self.numbers.header_table,
-            steps: n,
-        };
-        if !table.states(0, 0)
-            || !table.each_step(|low, next| low <= next)
-            || !table.states(n, header.len())
+        if !self
+            .headers()
+            .spans(0, |low, next| low <= next, header.len())
         {
             return Err(Refusal::BadOffsets);
         }
@@ -153,15 +195,9 @@ impl Tables<'_> {
     fn check_protein_offsets(&self, sequence: &[u8]) -> Result<(), Refusal>
         ensures { result ≡ checked_by (protein_offset_rules self.now.index.now sequence.now) }
     {
-        let n = self.numbers.sequences;
-        let table = Table {
-            index: self.index,
-            start: self.numbers.sequence_table,
-            steps: n,
-        };
-        if !table.states(0, 1)
-            || !table.each_step(|low, next| low < next)
-            || !table.states(n, sequence.len())
+        if !self
+            .starts()
+            .spans(1, |low, next| low < next, sequence.len())
         {
             return Err(Refusal::BadOffsets);
         }
@@ -173,21 +209,12 @@ impl Tables<'_> {
         requires { is_protein self.now.index.now ≡ false }
         ensures { result ≡ checked_by (dna_offset_rules self.now.index.now sequence.now) }
     {
-        let n = self.numbers.sequences;
-        let starts = Table {
-            index: self.index,
-            start: self.numbers.sequence_table,
-            steps: n,
-        };
-        let ends = Table {
-            index: self.index,
-            start: self.numbers.ambiguity_table,
-            steps: n,
-        };
+        let starts = self.starts();
+        let ends = self.ends();
         if !starts.states(0, FIRST_NUCLEOTIDE_OFFSET)
             || !starts.ambiguity_between(&ends)
-            || !starts.states(n, sequence.len())
-            || !ends.states(n, sequence.len())
+            || !starts.states(starts.steps, sequence.len())
+            || !ends.states(ends.steps, sequence.len())
         {
             return Err(Refusal::BadOffsets);
         }
@@ -231,16 +258,11 @@ impl Tables<'_> {
         if fields::byte(sequence, 0) != 0 {
             return Err(Refusal::BadSeparator);
         }
-        let n = self.numbers.sequences;
-        let table = Table {
-            index: self.index,
-            start: self.numbers.sequence_table,
-            steps: n,
-        };
+        let table = self.starts();
         let mut low = table.place(0);
         let mut sum = 0;
         let mut largest: usize = 0;
-        for i in 0..n {
+        for i in 0..table.steps {
             let next = table.place(i + 1);
             let end = next - 1;
             if sequence[end] != 0 {
@@ -260,20 +282,11 @@ impl Tables<'_> {
         requires offsets { AllHold (dna_offset_rules self.now.index.now sequence.now) }
         ensures { result ≡ checked_by (totals_of self.now.index.now (dna_length self.now.index.now sequence.now)) }
     {
-        let n = self.numbers.sequences;
-        let starts = Table {
-            index: self.index,
-            start: self.numbers.sequence_table,
-            steps: n,
-        };
-        let ends = Table {
-            index: self.index,
-            start: self.numbers.ambiguity_table,
-            steps: n,
-        };
+        let starts = self.starts();
+        let ends = self.ends();
         let mut sum = 0;
         let mut largest: usize = 0;
-        for i in 0..n {
+        for i in 0..starts.steps {
             let start = starts.place(i);
             let last = ends.place(i) - 1;
             let len = 4 * (last - start) + (sequence[last] % 4) as usize;

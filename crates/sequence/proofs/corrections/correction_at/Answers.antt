@@ -2,14 +2,15 @@
 use mathlib.Core.Path.{ap}
 use Prim.Native.Nat.{◌-◌, ◌*◌}
 use Rattle.sequence.specs.Corrections.{correction_of, correction_at}
-use Rattle.sequence.proofs.Ranges.{offset_shift, repeat_shift, power_shifted, correction_small}
+use Rattle.sequence.specs.Tabled.{width_bytes}
+use Rattle.sequence.proofs.Ranges.{width_either, offset_shift, repeat_shift, power_shifted}
 use Rattle.sequence.proofs.corrections.correction_at.Goals as goal
 
-pub returns : goal.returns
+pub returns-clause-value : goal.returns-clause-value
 unfolding correction_at correction_of
-returns c =
-    let a = c.args in
-    let o = power_shifted (6 * a.entries.width) (offset_shift a.entries.width c.requires.0.width) in
-    let r = power_shifted (2 * a.entries.width - 4) (repeat_shift a.entries.width c.requires.0.width).1 in
-    let x = c.entry_at-entry in
-    record { value = rw (o, r) (ap (correction_of a.entries.width) x.ensures.value); small = rw (o, r) (correction_small a.entries.width x.result c.requires.0.width x.ensures.small) }
+returns-clause-value c =
+    let width = c.args.entries.width in
+    let w = width_bytes width in
+    let o = power_shifted (6 * w) (offset_shift w (width_either width)) in
+    let r = power_shifted (2 * w - 4) (repeat_shift w (width_either width)).1 in
+    rw (c.bytes-w.ensures, o, r) (ap (correction_of w) (rw c.bytes-w.ensures at c.entry_at-entry.ensures.value))

@@ -2,6 +2,7 @@
 use mathlib.Core.Path.{sym}
 use Rattle.laws.proofs.Places.{every_more, every-fails}
 use Rattle.sequence.specs.Corrections.{entry_fits}
+use Rattle.sequence.specs.Tabled.{width_bytes}
 use Rattle.sequence.proofs.Ranges.{fits-not-after, fits-not-within, fits_both, end_next}
 use Rattle.sequence.proofs.corrections.entries_fit.Goals as goal
 use Rattle.sequence.proofs.corrections.entries_fit.Goals.{then-c-low-via-then-c-low, then-c-low-via-else-c-low+then-l-end}
@@ -12,12 +13,12 @@ returns-then-c-low c =
     let l = c.loop-j in
     let s = a.sequence.now in
     let x = c.correction_at-c in
-    let fails = every-fails (entry_fits s a.entries.start a.entries.width a.l) a.entries.count l.j c.loop-j-test.true in
+    let fails = every-fails (entry_fits s a.entries.start (width_bytes a.entries.width) a.l) a.entries.count l.j c.loop-j-test.true in
     elim c.then-c-low.branch [
       | then-c-low-via-then-c-low w ↦
-          sym (fails (fits-not-after s a.entries.start a.entries.width a.l l.j l.low x.result x.ensures.value l.invariant.0 w.if-c-low.true))
+          sym (fails (fits-not-after s a.entries.start (width_bytes a.entries.width) a.l l.j l.low x.result x.ensures.value l.invariant.0 w.if-c-low.true))
       | then-c-low-via-else-c-low+then-l-end w ↦
-          sym (fails (fits-not-within s a.entries.start a.entries.width a.l l.j l.low x.result x.ensures.value l.invariant.0 w.if-l-end.true))
+          sym (fails (fits-not-within s a.entries.start (width_bytes a.entries.width) a.l l.j l.low x.result x.ensures.value l.invariant.0 w.if-l-end.true))
     ]
 
 pub loop-j-preserved : goal.loop-j-preserved
@@ -26,8 +27,8 @@ loop-j-preserved c =
     let l = c.loop-j in
     let s = a.sequence.now in
     let x = c.correction_at-c in
-    let e = fits_both s a.entries.start a.entries.width a.l l.j l.low x.result x.ensures.value l.invariant.0 c.if-c-low.false c.if-l-end.false in (
-      end_next s a.entries.start a.entries.width a.l l.j l.low x.result x.ensures.value l.invariant.0,
+    let e = fits_both s a.entries.start (width_bytes a.entries.width) a.l l.j l.low x.result x.ensures.value l.invariant.0 c.if-c-low.false c.if-l-end.false in (
+      end_next s a.entries.start (width_bytes a.entries.width) a.l l.j l.low x.result x.ensures.value l.invariant.0,
       every_more
-          (entry_fits s a.entries.start a.entries.width a.l) l.j l.invariant.1 e,
+          (entry_fits s a.entries.start (width_bytes a.entries.width) a.l) l.j l.invariant.1 e,
     )

@@ -9,56 +9,49 @@ use lib.ListN.{get_or}
 use Rattle.laws.proofs.Places.{every_more, every-fails, largest-more}
 use Rattle.volume.specs.Index.{sequences}
 use Rattle.volume.specs.Tables.{protein_length}
-use Rattle.volume.proofs.Reading.{numbers_are}
 use Rattle.volume.proofs.Lengths.{protein-read, protein_turn, sum_step}
 use Rattle.volume.proofs.Named.{nul_behind}
 use Rattle.volume.proofs.tables.Tables.check_protein_lengths.Goals as goal
 
 pub place-next-requires : goal.place-next-requires
 place-next-requires c =
-    let n = numbers_are _ _ c.args.self.now.read in
-    (omega arith, protein-read c.args.self.now.index.now c.args.sequence.now c.requires _ n.starts_is _ (omega (arith, n.sequences_is)))
+    (omega arith, protein-read c.args.self.now.index.now c.args.sequence.now c.requires c.starts-table.ensures.index c.starts-table.ensures.start _ (omega arith))
 
 pub overflow_sub-end : goal.overflow_sub-end
 overflow_sub-end c =
-    let n = numbers_are _ _ c.args.self.now.read in
     let turn =
-    protein_turn c.args.self.now.index.now c.args.sequence.now c.requires _ n.starts_is c.loop-i.i _ _ (omega (arith, n.sequences_is))
-    c.loop-i.invariant.0 c.place-next.ensures.value in
+    protein_turn c.args.self.now.index.now c.args.sequence.now c.requires c.starts-table.ensures.index c.starts-table.ensures.start c.loop-i.i _ _
+    (omega arith) c.loop-i.invariant.0 c.place-next.ensures.value in
     omega (arith, turn.rises)
 
 pub bounds-sequence-end : goal.bounds-sequence-end
 bounds-sequence-end c =
-    let n = numbers_are _ _ c.args.self.now.read in
     let turn =
-    protein_turn c.args.self.now.index.now c.args.sequence.now c.requires _ n.starts_is c.loop-i.i _ _ (omega (arith, n.sequences_is))
-    c.loop-i.invariant.0 c.place-next.ensures.value in
+    protein_turn c.args.self.now.index.now c.args.sequence.now c.requires c.starts-table.ensures.index c.starts-table.ensures.start c.loop-i.i _ _
+    (omega arith) c.loop-i.invariant.0 c.place-next.ensures.value in
     omega (arith, turn.rises, turn.inside)
 
 pub returns-then-sequence-end-ne0 : goal.returns-then-sequence-end-ne0
 returns-then-sequence-end-ne0 c =
-    let n = numbers_are _ _ c.args.self.now.read in
     let turn =
-    protein_turn c.args.self.now.index.now c.args.sequence.now c.requires _ n.starts_is c.loop-i.i _ _ (omega (arith, n.sequences_is))
-    c.loop-i.invariant.0 c.place-next.ensures.value in
+    protein_turn c.args.self.now.index.now c.args.sequence.now c.requires c.starts-table.ensures.index c.starts-table.ensures.start c.loop-i.i _ _
+    (omega arith) c.loop-i.invariant.0 c.place-next.ensures.value in
     let first : eqb (get_or c.args.sequence.now 0 0) 0 ≡ true = eq-eqb _ _ (sym c.byte.ensures ∙ c.if-byte-ne0.false) in
     let bad = sym turn.nul ∙ ne_eqb _ _ c.if-sequence-end-ne0.true in
-    rw (first, every-fails (nul_behind c.args.self.now.index.now c.args.sequence.now) (sequences c.args.self.now.index.now) c.loop-i.i (omega (arith, n.sequences_is)) bad)
+    rw (first, every-fails (nul_behind c.args.self.now.index.now c.args.sequence.now) (sequences c.args.self.now.index.now) c.loop-i.i (omega arith) bad)
 
 pub overflow_sub-len : goal.overflow_sub-len
 overflow_sub-len c =
-    let n = numbers_are _ _ c.args.self.now.read in
     let turn =
-    protein_turn c.args.self.now.index.now c.args.sequence.now c.requires _ n.starts_is c.loop-i.i _ _ (omega (arith, n.sequences_is))
-    c.loop-i.invariant.0 c.place-next.ensures.value in
+    protein_turn c.args.self.now.index.now c.args.sequence.now c.requires c.starts-table.ensures.index c.starts-table.ensures.start c.loop-i.i _ _
+    (omega arith) c.loop-i.invariant.0 c.place-next.ensures.value in
     omega (arith, turn.rises)
 
 pub loop-i-preserved : goal.loop-i-preserved
 loop-i-preserved c =
-    let n = numbers_are _ _ c.args.self.now.read in
     let turn =
-    protein_turn c.args.self.now.index.now c.args.sequence.now c.requires _ n.starts_is c.loop-i.i _ _ (omega (arith, n.sequences_is))
-    c.loop-i.invariant.0 c.place-next.ensures.value in
+    protein_turn c.args.self.now.index.now c.args.sequence.now c.requires c.starts-table.ensures.index c.starts-table.ensures.start c.loop-i.i _ _
+    (omega arith) c.loop-i.invariant.0 c.place-next.ensures.value in
     let l = c.loop-i.invariant in
     let good = sym turn.nul ∙ eq-eqb _ _ c.if-sequence-end-ne0.false in (
       turn.next_is,
