@@ -1,8 +1,8 @@
 // The stream of cases: numbers, ranges and outputs, as the protocol has them.
 ghost use Rattle.std.specs.Prelude.{◌≤◌, IfOk};
 
+use crate::output::put_byte;
 use std::alloc::{AllocError, AllocFailed, Global};
-use std::fmt::HasDigits;
 use std::io;
 use std::io::{ErrorKind, Read};
 
@@ -125,12 +125,15 @@ impl<R: Read> Input<R> {
 }
 
 // What a range, a list or an output consists of: bytes, packets or numbers.
-pub trait Element: Copy + HasDigits {
+pub trait Element: Copy {
     // The most elements of a range or list.
     const MOST: usize;
 
     // The next element of a stream.
     fn take<R: Read>(input: &mut Input<R>) -> Result<Self, End>;
+
+    // Adds the element in hex, two digits for each of its bytes, to a line.
+    fn put_digits(self, line: &mut String) -> Result<(), AllocError>;
 }
 
 impl Element for u8 {
@@ -138,6 +141,10 @@ impl Element for u8 {
 
     fn take<R: Read>(input: &mut Input<R>) -> Result<u8, End> {
         Ok(u8::from_le_bytes(input.take_array()?))
+    }
+
+    fn put_digits(self, line: &mut String) -> Result<(), AllocError> {
+        put_byte(line, self)
     }
 }
 
@@ -147,6 +154,10 @@ impl Element for u32 {
     fn take<R: Read>(input: &mut Input<R>) -> Result<u32, End> {
         Ok(u32::from_le_bytes(input.take_array()?))
     }
+
+    fn put_digits(self, line: &mut String) -> Result<(), AllocError> {
+        write!(line, "{self:08x}")
+    }
 }
 
 impl Element for u64 {
@@ -154,5 +165,9 @@ impl Element for u64 {
 
     fn take<R: Read>(input: &mut Input<R>) -> Result<u64, End> {
         input.take_number()
+    }
+
+    fn put_digits(self, line: &mut String) -> Result<(), AllocError> {
+        write!(line, "{self:016x}")
     }
 }

@@ -6,9 +6,10 @@ use Prim.Native.Nat.{ℕ, zero, suc, ◌+◌, ◌*◌, ◌-◌, ◌/◌, ◌%◌
 use native.Mathlib.Omega.{arith}
 use lib.Dec.{eqb, leb, ltb}
 use lib.ListN.{length, take, drop, get_or}
-use Rattle.std.specs.List.{list_all, prefix_len}
-use Rattle.std.specs.Prelude.{◌==◌, nat_lt}
-use borrow.Author.Tests.{le-ltb, ne_eqb, eqb-true, eqb-false, le-leb}
+use Rattle.std.specs.List.{prefix_len}
+use Rattle.std.specs.Prelude.{◌==◌, nat_lt, count_by}
+use Rattle.std.proofs.lemmas.List.Sums.{sum_by-cons, count_by-le-length}
+use borrow.Author.Tests.{le-ltb, eq-eqb, ne_eqb, eqb-true, eqb-false, le-leb}
 use Rattle.laws.specs.Digits.{digits, all_below}
 use Rattle.laws.specs.Writing.{written_at}
 use Rattle.laws.proofs.Tests.{never, bool_cases, both_pass, cond_passed}
@@ -33,25 +34,63 @@ code_place p (suc (suc (suc (suc zero)))) bit h e = rw e refl
 code_place p (suc (suc (suc (suc (suc zero))))) bit h e = rw e refl
 code_place p (suc (suc (suc (suc (suc (suc i)))))) bit h e = let z : ⊥ = omega arith in absurd z
 
--- only 31
-pub fill_all : (ds : List ℕ) → list_all (λ d. d == 31) ds ≡ only_fill ds
+-- ---- valid codes and then only 31, by two counts
+
+-- both sides of a test for equality are one more
+eqb_more : (a b : ℕ) → eqb (suc a) (suc b) ≡ eqb a b
+eqb_more a b =
+    bool_cases (eqb a b) (λ e. eq-eqb (suc a) (suc b) (ap suc (eqb-true a b e)) ∙ sym e)
+    (λ e. ne_eqb (suc a) (suc b) (λ q. eqb-false a b e (omega arith)) ∙ sym e)
+
+abbrev fill_in : List ℕ → ℕ
+fill_in ds = count_by (λ d. d == 31) ds
+
+-- one code more that is 31, or is not
+fill_more : (d : ℕ) (ds : List ℕ) → eqb d 31 ≡ true → fill_in (d ∷ ds) ≡ suc (fill_in ds)
+fill_more d ds e = sum_by-cons (λ x. cond (x == 31) 1 0) d ds ∙ rw e (omega arith)
+
+fill_same : (d : ℕ) (ds : List ℕ) → eqb d 31 ≡ false → fill_in (d ∷ ds) ≡ fill_in ds
+fill_same d ds e = sum_by-cons (λ x. cond (x == 31) 1 0) d ds ∙ rw e (omega arith)
+
+-- as many as there are: only 31
+pub fill_counts : (ds : List ℕ) → eqb (fill_in ds) (length ds) ≡ only_fill ds
 unfolding only_fill
-fill_all [] = refl
-fill_all (d ∷ ds) = rw (fill_all ds)
+fill_counts [] = refl
+fill_counts (d ∷ ds) =
+    bool_cases (eqb d 31) (λ e. rw (fill_more d ds e, e) (eqb_more (fill_in ds) (length ds) ∙ fill_counts ds))
+    (λ e. let m = count_by-le-length (λ x. x == 31) ds in
+    rw (fill_same d ds e, e) (ne_eqb (fill_in ds) (suc (length ds)) (λ q. omega arith)))
 
-fill_cons : (d : ℕ) (ds : List ℕ) (b : Bool) → eqb d 31 ≡ b → list_all (λ x. x == 31) (d ∷ ds) ≡ (b && list_all (λ x. x == 31) ds)
-fill_cons d ds b e = ap (λ (c : Bool). c && list_all (λ x. x == 31) ds) e
+-- the codes in front that are below a limit, and those that are 31
+abbrev counted : ℕ → List ℕ → ℕ
+counted m ds = prefix_len (λ d. nat_lt d m) ds + fill_in ds
 
--- the codes below a limit are passed over, and only 31 is left
-pub tailed_all : (m : ℕ) → m ≤ 31 → (ds : List ℕ) → list_all (λ d. d == 31) (drop (prefix_len (λ d. nat_lt d m) ds) ds) ≡ valid_tailed m ds
+front_more : (m d : ℕ) (ds : List ℕ) → ltb d m ≡ true → prefix_len (λ x. nat_lt x m) (d ∷ ds) ≡ suc (prefix_len (λ x. nat_lt x m) ds)
+front_more m d ds f = rw f (omega arith)
+
+front_ends : (m d : ℕ) (ds : List ℕ) → ltb d m ≡ false → prefix_len (λ x. nat_lt x m) (d ∷ ds) ≡ 0
+front_ends m d ds f = rw f refl
+
+-- they are all where the codes are valid, then only 31
+pub tailed_counts : (m : ℕ) → m ≤ 31 → (ds : List ℕ) → eqb (counted m ds) (length ds) ≡ valid_tailed m ds
 unfolding valid_tailed
-tailed_all m h [] = refl
-tailed_all m h (d ∷ ds) =
+tailed_counts m h [] = refl
+tailed_counts m h (d ∷ ds) =
+    let all = suc (length ds) in
     bool_cases (eqb d 31)
-    (λ e. let q : d ≡ 31 = eqb-true d 31 e in rw (e, le-ltb d m (omega arith)) (fill_cons d ds true e ∙ fill_all ds))
     (λ e.
-    let s : 1 + prefix_len (λ x. nat_lt x m) ds ≡ suc (prefix_len (λ x. nat_lt x m) ds) = omega arith in
-    bool_cases (ltb d m) (λ f. rw (e, f, s) (tailed_all m h ds)) (λ f. rw (e, f) (fill_cons d ds false e)))
+    let q : d ≡ 31 = eqb-true d 31 e in
+    let n : counted m (d ∷ ds) ≡ suc (fill_in ds) = omega (arith, front_ends m d ds (le-ltb d m (omega arith)), fill_more d ds e) in
+    ap (λ (k : ℕ). eqb k all) n ∙ eqb_more (fill_in ds) (length ds) ∙ fill_counts ds ∙ sym (rw e refl))
+    (λ e.
+    bool_cases (ltb d m)
+    (λ f.
+    let n : counted m (d ∷ ds) ≡ suc (counted m ds) = omega (arith, front_more m d ds f, fill_same d ds e) in
+    ap (λ (k : ℕ). eqb k all) n ∙ eqb_more (counted m ds) (length ds) ∙ tailed_counts m h ds ∙ sym (rw (e, f) refl))
+    (λ f.
+    let n : counted m (d ∷ ds) ≡ fill_in ds = omega (arith, front_ends m d ds f, fill_same d ds e) in
+    let l = count_by-le-length (λ x. x == 31) ds in
+    ap (λ (k : ℕ). eqb k all) n ∙ ne_eqb (fill_in ds) all (λ q. omega arith) ∙ sym (rw (e, f) refl)))
 
 -- ---- the codes before the first 31
 

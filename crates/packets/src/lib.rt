@@ -4,8 +4,8 @@
 mod encoding;
 mod words;
 
-ghost use Rattle.std.specs.Prelude.{◌≡◌, [], ◌∷◌, not, ◌==◌, nat_lt, ◌+◌, ◌/◌, ◌%◌, ◌^◌, ◌≤◌, ◌<◌, leb, eqb, length, take, drop};
-ghost use Rattle.std.specs.List.{list_all, prefix_len};
+ghost use Rattle.std.specs.Prelude.{◌≡◌, [], ◌∷◌, not, ◌==◌, nat_lt, ◌+◌, ◌/◌, ◌%◌, ◌^◌, ◌≤◌, ◌<◌, leb, eqb, length, take, count_by};
+ghost use Rattle.std.specs.List.{prefix_len};
 ghost use Rattle.laws.specs.Digits.{digits};
 ghost use Rattle.fields.specs.Number.{little};
 ghost use Rattle.fields.specs.Written.{little_bytes, number_put};
@@ -86,14 +86,33 @@ fn five_bit_codes(packet: u32) -> [u8; 6]
     ]
 }
 
-// Whether codes are below a limit, then only 31.
-fn valid_tailed(codes: &[u8], limit: u8) -> bool
-    ensures { result ≡ list_all (λ c. c == 31) (drop (prefix_len (λ c. nat_lt c limit) codes.now) codes.now) }
+// The number of codes in front that are below a limit.
+fn count_valid(codes: &[u8], limit: u8) -> usize
+    ensures { result ≡ prefix_len (λ c. nat_lt c limit) codes.now }
 {
-    codes
-        .iter()
-        .skip_while(|code| **code < limit)
-        .all(|code| *code == 31)
+    codes.iter().take_while(|code| **code < limit).count()
+}
+
+// The number of codes that are 31.
+fn count_fill(codes: &[u8]) -> usize
+    ensures { result ≡ count_by (λ c. c == 31) codes.now }
+{
+    let mut count = 0;
+    for code in codes {
+        if *code == 31 {
+            count += 1;
+        }
+    }
+    count
+}
+
+// Whether codes are below a limit, then only 31: those in front and the fill are all. A walk of two parts would keep the codes of a packet in
+// memory, where these counts have them in registers.
+fn valid_tailed(codes: &[u8], limit: u8) -> bool
+    requires { limit ≤ 31 }
+    ensures { result ≡ valid_tailed limit codes.now }
+{
+    count_valid(codes, limit) + count_fill(codes) == codes.len()
 }
 
 // The number of codes before the first 31.

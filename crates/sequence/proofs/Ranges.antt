@@ -22,7 +22,7 @@ use Rattle.sequence.specs.declared.RangeEntries.{RangeEntries}
 use Rattle.sequence.specs.declared.Width.{Width}
 use Rattle.sequence.specs.declared.Width.TheVariants.{Narrow, Wide}
 use Rattle.sequence.specs.Tabled.{width_bytes, range_width, range_entries, entries_of, LieInside}
-use Rattle.sequence.specs.Corrections.{first_word, stated_words, is_wide, is_table, entry_width, entry_count, correction_at}
+use Rattle.sequence.specs.Corrections.{first_word, stated_words, is_wide, is_table, entry_width, entry_count, correction_of, correction_at}
 use Rattle.sequence.specs.Corrections.{correction_end, end_before, entry_fits, range_rules}
 use Rattle.sequence.specs.Holds.{HasEntries, empty, narrow, wide}
 
@@ -43,6 +43,13 @@ module _ (w : ℕ) (e : (w ≡ 4) ⊎ (w ≡ 8)) where
 
 pub power_shifted : (b : ℕ) → b < 64 → 1 * 2 ^ b % 18446744073709551616 ≡ 2 ^ b
 power_shifted b h = shl_exact {a = 1} 1 b 64 (lit< tt) (omega arith) ∙ one-mul (2 ^ b)
+
+-- an entry's value is below 16, its offset below 2^48, and its repeat at most 4096
+pub correction_small : (w entry : ℕ) → (w ≡ 4) ⊎ (w ≡ 8) → entry < 2 ^ (8 * w)
+    → ((correction_of w entry).value < 16) × ((correction_of w entry).start < 281474976710656) × ((correction_of w entry).length ≤ 4096)
+unfolding correction_of
+correction_small w entry (inl e) h = let l : entry < 4294967296 = rw e at h in rw e (omega arith)
+correction_small w entry (inr e) h = let l : entry < 18446744073709551616 = rw e at h in rw e (omega arith)
 
 -- ---- the range
 

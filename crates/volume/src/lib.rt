@@ -65,7 +65,8 @@ fn check_sizes(index: &[u8], sequence: &[u8], header: &[u8]) -> Result<(), Refus
     Ok(())
 }
 
-// How many bytes of a text are left without the NULs at its end.
+// How many bytes of a text are left without the NULs at its end. It is never made a part of its caller, where the compiler keeps the place in memory.
+#[inline(never)]
 fn trimmed(text: &[u8]) -> usize
     ensures { result ≡ trimmed_length text.now 0 (length text.now) }
 {
