@@ -19,7 +19,7 @@ fn digit(n: u8) -> char {
     char::from(b'a' + (d - 10))
 }
 
-// A byte in hex. Digit by digit it is several times as fast as by a format, and most of a line are bytes.
+// A byte in hex. Digit by digit it is several times as fast as by a format, and most of a line is bytes.
 pub fn put_byte(line: &mut String, b: u8) -> Result<(), AllocError> {
     line.push(digit(b / 16))?;
     line.push(digit(b))

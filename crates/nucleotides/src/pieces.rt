@@ -96,8 +96,8 @@ fn begun_in(codes: &[u8]) -> u8
     requires { (0 < length codes.now) × (length codes.now ≤ 256) }
     ensures { result ≡ sum_to (λ i. begun (code_at codes.now i) (code_at codes.now (i + 1))) (length codes.now - 1) }
 {
-    // By themselves, the codes behind the first are read anew in each turn. Where a turn takes a code over from the one before, the compiler makes no
-    // vectors of a short rest.
+    // The codes behind the first are a slice of their own: each turn reads both codes. Where it took one over from the turn before, a short rest would
+    // be compiled to no vectors.
     let behind = &codes[1..];
     let mut count = 0;
     for i in 0..behind.len() {
